@@ -1,0 +1,3 @@
+pub mod Kinds
+pub mod Models
+pub mod Sets

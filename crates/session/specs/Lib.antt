@@ -1,0 +1,4 @@
+pub mod Calls
+pub mod Exact
+pub mod States
+pub mod Stays

@@ -1,0 +1,5 @@
+mod Copies
+mod Looks
+mod Pieces
+mod Stacks
+mod Walks
