@@ -15,7 +15,8 @@ impl Table {
     pub fn close(self) -> usize
         ensures { λ r. ⌜ r ≡ self .rows ⌝ }
     {
-        let Table { p: _, rows } = self;
+        let rows = self.rows();
+        let Table { p: _, rows: _ } = self;
         rows
     }
 }
@@ -39,12 +40,13 @@ impl Open {
     pub fn close(self) -> usize
         ensures { λ r. ⌜ r ≡ self .count ⌝ }
     {
+        let cubes = self.cubes();
         let Open {
             p: _,
             rows: _,
             off: _,
-            count,
+            count: _,
         } = self;
-        count
+        cubes
     }
 }
