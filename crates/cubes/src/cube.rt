@@ -1,7 +1,7 @@
 //! Tests on two cubes, part by part.
 ghost use mathlib.Core.Path.{_≡_};
 ghost use mathlib.Core.List.{map};
-ghost use Rattle.cubes.specs.Cubes.{covers as coversAll, meets as meetsAll, same as sameAll};
+ghost use Rattle.cubes.specs.Cubes.{covers as coversAll, meets as meetsAll};
 use parts::Part;
 
 /// Whether each part of `b` lies within that part of `a`.
@@ -28,23 +28,6 @@ pub fn meets<P: Part>(a: &[P], b: &[P]) -> bool
         let x = a[i];
         let y = b[i];
         if x.common(y).is_empty() {
-            return false;
-        }
-    }
-    true
-}
-
-/// Whether `a` and `b` have the same parts.
-pub fn same<P: Part>(a: &[P], b: &[P]) -> bool
-    ensures { λ r. ⌜ r ≡ sameAll (map set (now (a .entry))) (map set (now (b .entry))) ⌝ }
-{
-    if a.len() != b.len() {
-        return false;
-    }
-    for i in 0..a.len() {
-        let x = a[i];
-        let y = b[i];
-        if !x.outside(y).is_empty() || !y.outside(x).is_empty() {
             return false;
         }
     }
