@@ -147,7 +147,10 @@ fn refusal(
 ) -> Result<String, AllocError>
     ensures { λ r. ⌜ made r (λ s. string-bytes s ≡ lineOf number (now (name .entry)) (now (layer .entry)) at first second) ⌝ }
 {
-    format!(heap, "refused {number} {name} {layer} at {at} {first} {second}\n")
+    format!(
+        heap,
+        "refused {number} {name} {layer} at {at} {first} {second}\n"
+    )
 }
 
 impl Fault {

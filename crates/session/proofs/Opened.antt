@@ -62,7 +62,7 @@ map-on s p zero ts cs = refl
 map-on s p (suc n) ts cs =
     map-either s (isOn (getD cs 0 blank)) (take p ts) (onCubes p n (drop p ts) (drop 1 cs))
     ∙ ap₂ (λ (c : Cube) (C : Cover). cond (isOn (getD cs 0 blank)) (c ∷ C) C) (sym (take-map s p ts))
-      (map-on s p n (drop p ts) (drop 1 cs) ∙ ap (λ T. onCubes p n T (drop 1 cs)) (sym (drop-map s p ts)))
+    (map-on s p n (drop p ts) (drop 1 cs) ∙ ap (λ T. onCubes p n T (drop 1 cs)) (sym (drop-map s p ts)))
 
 -- what copying the ON rows leaves of the solution: its sets, and what stays
 pub copied-sets : {X : Type 0} (s : X → ℕ) (p n : ℕ) (ts : List X) (cs : List Card) (S E : List X) → S ≡ overlay (flat (onCubes p n ts cs)) E
@@ -94,8 +94,8 @@ module _ (most p n : ℕ) (us ts : List ℕ) (rs : List Card) (off solution : Li
       let list : cubes p (length L) (overlay (flat L) off) ≡ rest U (all-rows T) = cubes-overlay p L off wide ∙ ap (rest U) (sym same) in
       let rows : Wide p (all-rows T) = subst (Wide p) (sym same) (wide-cubes p n ts fits) in
       let on : cubes p (onCount n rs) (overlay (flat (onCubes p n ts rs)) solution) ≡ on-rows T =
-        ap (λ k. cubes p k (overlay (flat (onCubes p n ts rs)) solution)) (sym (length-onCubes p n ts rs))
-        ∙ cubes-overlay p (onCubes p n ts rs) solution (wide-on p n ts rs fits) ∙ on-cubes p n ts rs in
+      ap (λ k. cubes p k (overlay (flat (onCubes p n ts rs)) solution)) (sym (length-onCubes p n ts rs))
+      ∙ cubes-overlay p (onCubes p n ts rs) solution (wide-on p n ts rs fits) ∙ on-cubes p n ts rs in
       record {
         off = λ v h. rw list (rest-exact p most U T v size rows h);
         on = on;
@@ -143,14 +143,14 @@ module _ {X : Type 0} (s : X → ℕ) (t : Filling) (us ts : List X) (rs : List 
 
     pub leaves-full : leb (length list) (offMost (t .p) (length off)) ≡ false
         → leaving (Err (t, byEngine (Off (offMost (t .p) (length off))))) (overlay (flat (take (offMost (t .p) (length off)) list)) (map s off)) (map s solution) cards
-          (overlay (replicate (areaLength (t .p) (length work) (length numbers) * t .p) 0) (map s work)) (overlay (replicate (areaLength (t .p) (length work) (length numbers)) 0) numbers) ≡ made
+        (overlay (replicate (areaLength (t .p) (length work) (length numbers) * t .p) 0) (map s work)) (overlay (replicate (areaLength (t .p) (length work) (length numbers)) 0) numbers) ≡ made
     leaves-full e =
         let f : leb (length list) (offMost (t .p) (length (map s off))) ≡ false = ap (λ n. leb (length list) (offMost (t .p) n)) (length-map off s) ∙ e in
         rw (verdict ∙ passed, f) (simp length-map)
 
     pub leaves-open : leb (length list) (offMost (t .p) (length off)) ≡ true
         → leaving (Ok (record { p = t .p; rows = t .rows; off = length list; count = onCount (t .rows) rs })) (overlay (flat (take (offMost (t .p) (length off)) list)) (map s off)) (overlay (flat (onCubes (t .p) (t .rows) (map s ts) rs)) (map s solution)) (overlay (replicate (onCount (t .rows) rs) blank) cards)
-          (overlay (replicate (areaLength (t .p) (length work) (length numbers) * t .p) 0) (map s work)) (overlay (replicate (areaLength (t .p) (length work) (length numbers)) 0) numbers) ≡ made
+        (overlay (replicate (areaLength (t .p) (length work) (length numbers) * t .p) 0) (map s work)) (overlay (replicate (areaLength (t .p) (length work) (length numbers)) 0) numbers) ≡ made
     leaves-open e =
         let f : leb (length list) (offMost (t .p) (length (map s off))) ≡ true = ap (λ n. leb (length list) (offMost (t .p) n)) (length-map off s) ∙ e in
         let all : take (offMost (t .p) (length off)) list ≡ list = take-all (offMost (t .p) (length off)) list (leb-true (length list) (offMost (t .p) (length off)) e) in

@@ -7,13 +7,13 @@ ghost use lib.ListN.{take, drop};
 ghost use Rattle.std.specs.Results.{isOk};
 ghost use Rattle.session.specs.Calls.{added};
 ghost use Rattle.session.specs.States.{filling, addedAnswer};
+use crate::types::Table;
 use faults::Fault;
 use faults::Layer;
 use parts::Part;
 use table::card::Card;
 use table::card::Kind;
 use table::row::add_row;
-use crate::types::Table;
 
 /// Adds a row to the table (area 2, with its cards `rows`), made from the first words, one for each part. Refuses `area`, `empty`,
 /// `outside`, `repeat` and `full`.
@@ -37,10 +37,7 @@ pub fn add<P: Part>(
     match add_row(p, at, kind, &all[0..p], universe, table, rows) {
         Ok(()) => {
             let Table { p, rows } = t;
-            Ok(Table {
-                p,
-                rows: rows + 1,
-            })
+            Ok(Table { p, rows: rows + 1 })
         }
         Err(cause) => Err((
             t,

@@ -6,11 +6,11 @@ ghost use lib.ListN.{drop};
 ghost use Rattle.std.specs.Results.{isOk};
 ghost use Rattle.session.specs.Calls.{begun};
 ghost use Rattle.session.specs.States.{begunAnswer};
+use crate::types::Table;
 use faults::Fault;
 use faults::Layer;
 use parts::Part;
 use table::begin::begin_universe;
-use crate::types::Table;
 
 /// Writes the universe (area 1) from its number of parts and their sizes, and begins a table with no row. Refuses `shape` and `area`.
 pub fn begin<P: Part>(p: usize, sizes: &[usize; 16], universe: &mut [P]) -> Result<Table, Fault>

@@ -7,6 +7,8 @@ ghost use Rattle.session.specs.Calls.{leaving, opening};
 ghost use Rattle.session.specs.Exact.{OpensExactly};
 ghost use Rattle.session.specs.States.{filling, openedAnswer, byEngine};
 ghost use Rattle.session.specs.Stays.{offWritten, solutionWritten, workWritten};
+use crate::types::Open;
+use crate::types::Table;
 use faults::Cause;
 use faults::Fault;
 use faults::Layer;
@@ -17,8 +19,6 @@ use table::open::Lengths;
 use table::open::check_open;
 use table::open::copy_on_rows;
 use table::row::area_length;
-use crate::types::Open;
-use crate::types::Table;
 
 // A refusal of the engine, with the table handed back.
 fn refused(t: Table, cause: Cause) -> (Table, Fault)

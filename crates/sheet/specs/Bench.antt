@@ -104,19 +104,25 @@ abbrev pub rowAdded : ℕ → List ℕ → Sheet-table → Added → Step
 rowAdded most sizes s a =
     let m = s .memory in
     elim (a .answer) [
-      Ok t ↦ Ok (
+      | Ok t ↦ Ok (
         filling most sizes
-        (record {
-          table = t;
-          row = inHand sizes;
-          memory = record {
-            universe = m .universe; table = a .table; rows = a .rows; off = m .off; solution = m .solution; cards = m .cards; work = m .work;
-            numbers = m .numbers;
-          };
-        }),
-        []
+            (record {
+              table = t;
+              row = inHand sizes;
+              memory = record {
+                universe = m .universe;
+                table = a .table;
+                rows = a .rows;
+                off = m .off;
+                solution = m .solution;
+                cards = m .cards;
+                work = m .work;
+                numbers = m .numbers;
+              };
+            }),
+        [],
       )
-    | Err e ↦ Err (e .1)
+      | Err e ↦ Err (e .1)
     ]
 
 -- what Open left; the line has ON rows and off cubes
@@ -124,15 +130,21 @@ abbrev pub tableOpened : (ℕ → ℕ → List ℕ) → Sheet-table → Opening 
 tableOpened line s o =
     let m = s .memory in
     elim (o .answer) [
-      Ok t ↦ Ok (
+      | Ok t ↦ Ok (
         opened t
-        (record {
-          universe = m .universe; table = m .table; rows = m .rows; off = o .off; solution = o .solution; cards = o .cards; work = o .work;
-          numbers = o .numbers;
-        }),
-        line (t .count) (t .off)
+            (record {
+              universe = m .universe;
+              table = m .table;
+              rows = m .rows;
+              off = o .off;
+              solution = o .solution;
+              cards = o .cards;
+              work = o .work;
+              numbers = o .numbers;
+            }),
+        line (t .count) (t .off),
       )
-    | Err e ↦ Err (e .1)
+      | Err e ↦ Err (e .1)
     ]
 
 module _ (line : ℕ → ℕ → List ℕ) (most : ℕ) (sizes : List ℕ) where
@@ -154,17 +166,23 @@ module _ (line : ℕ → ℕ → List ℕ) (most : ℕ) (sizes : List ℕ) where
       let m = fresh p in
       let b = begun most p sizes (m .universe) in
       elim (b .answer) [
-        Ok t ↦ atFilling
-          (record {
-            table = t;
-            row = inHand sizes;
-            memory = record {
-              universe = b .universe; table = m .table; rows = m .rows; off = m .off; solution = m .solution; cards = m .cards; work = m .work;
-              numbers = m .numbers;
-            };
-          })
-          c
-      | Err f ↦ Err f
+        | Ok t ↦ atFilling
+            (record {
+              table = t;
+              row = inHand sizes;
+              memory = record {
+                universe = b .universe;
+                table = m .table;
+                rows = m .rows;
+                off = m .off;
+                solution = m .solution;
+                cards = m .cards;
+                work = m .work;
+                numbers = m .numbers;
+              };
+            })
+            c
+        | Err f ↦ Err f
       ]
 
 -- ---- state 1

@@ -33,12 +33,12 @@ abbrev pub printed : ℕ → ℕ → State → List ℕ → List ℕ
 printed zero at s bytes = []
 printed (suc n) at s bytes =
     elim (reading bytes) [
-      Ok (Some c) ↦ elim (obeyed s c) [
-        Ok r ↦ r .1 ++ printed n (at + width c) (r .0) (drop (width c) bytes)
-      | Err f ↦ refusalLine f at
+      | Ok (Some c) ↦ elim (obeyed s c) [
+        | Ok r ↦ r .1 ++ printed n (at + width c) (r .0) (drop (width c) bytes)
+        | Err f ↦ refusalLine f at
       ]
-    | Ok None ↦ []
-    | Err cause ↦ refusalLine (bySheet cause) at
+      | Ok None ↦ []
+      | Err cause ↦ refusalLine (bySheet cause) at
     ]
 
 -- the lines of a sheet, each with its newline

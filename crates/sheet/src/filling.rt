@@ -2,6 +2,11 @@
 ghost use mathlib.Core.Path.{_≡_};
 ghost use Prim.Native.Nat.{_≤_};
 ghost use lib.ListN.{length};
+use crate::stage::Said;
+use crate::stage::Stage;
+use crate::stage::by_sheet;
+use crate::stage::misplaced;
+use crate::stage::refuse;
 use commands::Command;
 use commands::read;
 use faults::Cause;
@@ -16,15 +21,13 @@ use std::alloc::AllocError;
 use std::alloc::Global;
 use table::card::Card;
 use table::card::Kind;
-use crate::stage::Said;
-use crate::stage::Stage;
-use crate::stage::by_sheet;
-use crate::stage::misplaced;
-use crate::stage::refuse;
 
 const PARTS: usize = 8;
+
 const ROWS: usize = 32;
+
 const CUBES: usize = 32;
+
 const OFFS: usize = 128;
 
 impl Said {
@@ -82,7 +85,17 @@ fn open_table<P: Part>(
     work: &mut [P],
     numbers: &mut [usize],
 ) -> Result<Open, Fault> {
-    match open(t, universe, table, rows, off, solution, cards, work, numbers) {
+    match open(
+        t,
+        universe,
+        table,
+        rows,
+        off,
+        solution,
+        cards,
+        work,
+        numbers,
+    ) {
         Ok(o) => Ok(o),
         Err(e) => {
             let (t, fault) = e;
@@ -131,7 +144,17 @@ fn fill_step<P: Part>(
             Ok((stage, Said::Nothing))
         }
         Command::Open => {
-            let o = open_table(t, universe, table, rows, off, solution, cards, work, numbers)?;
+            let o = open_table(
+                t,
+                universe,
+                table,
+                rows,
+                off,
+                solution,
+                cards,
+                work,
+                numbers,
+            )?;
             let said = Said::Opened {
                 on: o.cubes(),
                 off: o.off_cubes(),
@@ -157,7 +180,21 @@ fn obey<P: Part>(
     numbers: &mut [usize],
 ) -> Result<(Stage, Said), Fault> {
     match stage {
-        Stage::Filling(t, row) => fill_step(t, row, p, sizes, command, universe, table, rows, off, solution, cards, work, numbers),
+        Stage::Filling(t, row) => fill_step(
+            t,
+            row,
+            p,
+            sizes,
+            command,
+            universe,
+            table,
+            rows,
+            off,
+            solution,
+            cards,
+            work,
+            numbers,
+        ),
         Stage::Opened(o) => {
             let _ = o.close();
             Err(misplaced(command, 3))
@@ -198,7 +235,20 @@ fn run<P: Part>(
                 stage.close();
                 return refuse(heap, out, by_sheet(cause), at);
             }
-            Ok(Some((command, rest))) => match obey(stage, p, sizes, command, universe, table, rows, off, solution, cards, work, numbers) {
+            Ok(Some((command, rest))) => match obey(
+                stage,
+                p,
+                sizes,
+                command,
+                universe,
+                table,
+                rows,
+                off,
+                solution,
+                cards,
+                work,
+                numbers,
+            ) {
                 Err(fault) => return refuse(heap, out, fault, at),
                 Ok(next) => {
                     let (s, said) = next;
@@ -236,7 +286,22 @@ fn begin_and_run<P: Part>(
         Err(fault) => fault.line(heap, end - bytes.len()),
         Ok(t) => {
             let stage = Stage::Filling(t, in_hand(sizes));
-            run(heap, stage, p, sizes, bytes, end, universe, table, rows, off, solution, cards, work, numbers)
+            run(
+                heap,
+                stage,
+                p,
+                sizes,
+                bytes,
+                end,
+                universe,
+                table,
+                rows,
+                off,
+                solution,
+                cards,
+                work,
+                numbers,
+            )
         }
     }
 }
@@ -251,7 +316,13 @@ fn repeated<T: Copy>(heap: Global, x: T, n: usize) -> Result<Vec<T>, AllocError>
 }
 
 /// The lines from the command that begins the table on, in areas of the bench's lengths.
-pub(crate) fn fill_table<P: Part>(heap: Global, p: usize, sizes: &[usize; 16], bytes: &[u8], end: usize) -> Result<String, AllocError>
+pub(crate) fn fill_table<P: Part>(
+    heap: Global,
+    p: usize,
+    sizes: &[usize; 16],
+    bytes: &[u8],
+    end: usize,
+) -> Result<String, AllocError>
     requires { ⌜ p ≤ 16 ⌝ ∗ ⌜ length (now bytes) ≤ end ⌝ }
 {
     let none = P::make(0);

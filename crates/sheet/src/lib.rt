@@ -25,8 +25,7 @@ use std::alloc::Global;
 pub const SHEET_MOST: usize = 4096;
 
 /// The lines for a sheet, newlines included, up to the first refusal. Want of memory is the only error.
-pub fn lines(heap: Global, sheet: &[u8]) -> Result<String, AllocError>
-{
+pub fn lines(heap: Global, sheet: &[u8]) -> Result<String, AllocError> {
     if sheet.len() > SHEET_MOST {
         return by_sheet(Cause::Long).line(heap, 0);
     }

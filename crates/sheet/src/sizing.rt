@@ -3,6 +3,9 @@ ghost use mathlib.Core.Path.{_≡_};
 ghost use Prim.Native.Nat.{_<_, _≤_};
 ghost use lib.ListN.{length};
 ghost use Rattle.std.specs.Vec.{made};
+use crate::filling::fill_table;
+use crate::stage::by_sheet;
+use crate::stage::misplaced;
 use commands::Command;
 use commands::read;
 use faults::Cause;
@@ -11,9 +14,6 @@ use faults::Layer;
 use parts::Part;
 use std::alloc::AllocError;
 use std::alloc::Global;
-use crate::filling::fill_table;
-use crate::stage::by_sheet;
-use crate::stage::misplaced;
 
 // Declares one part more, after `p` of them.
 fn declare<P: Part>(sizes: &mut [usize; 16], p: usize, size: u8) -> Result<(), Fault>
@@ -43,7 +43,11 @@ fn declare<P: Part>(sizes: &mut [usize; 16], p: usize, size: u8) -> Result<(), F
 }
 
 /// The lines from the bytes after the kind on.
-pub(crate) fn size_parts<P: Part>(heap: Global, bytes: &[u8], end: usize) -> Result<String, AllocError>
+pub(crate) fn size_parts<P: Part>(
+    heap: Global,
+    bytes: &[u8],
+    end: usize,
+) -> Result<String, AllocError>
     requires { ⌜ length (now bytes) ≤ end ⌝ }
 {
     let mut sizes = [0; 16];
@@ -69,7 +73,13 @@ pub(crate) fn size_parts<P: Part>(heap: Global, bytes: &[u8], end: usize) -> Res
                     }
                     return fill_table::<P>(heap, p, &sizes, bytes, end);
                 }
-                Command::On | Command::Dc | Command::Open => return fill_table::<P>(heap, p, &sizes, bytes, end),
+                Command::On | Command::Dc | Command::Open => return fill_table::<P>(
+                    heap,
+                    p,
+                    &sizes,
+                    bytes,
+                    end,
+                ),
             },
         }
     }

@@ -63,7 +63,12 @@ pub(crate) fn misplaced(command: Command, state: u8) -> Fault
 }
 
 /// The lines so far and the refusal's.
-pub(crate) fn refuse(heap: Global, mut out: String, fault: Fault, at: usize) -> Result<String, AllocError>
+pub(crate) fn refuse(
+    heap: Global,
+    mut out: String,
+    fault: Fault,
+    at: usize,
+) -> Result<String, AllocError>
     ensures { λ r. ⌜ made r (λ s. string-bytes s ≡ string-bytes out ++ refusalLine fault at) ⌝ }
 {
     let line = fault.line(heap, at)?;

@@ -1,3 +1,4 @@
 pub mod Verdicts
 pub mod Rows
 mod Offs
+mod Lowest

@@ -86,11 +86,10 @@ module _ {X : Type 0} (p n : ℕ) (ts : List X) (cs : List Card) (E : List X) (F
   copying-on t size fits room inv =
       let R = onCubes p (n - (i + 1)) (drop ((i + 1) * p) ts) (drop (i + 1) cs) in
       let count = count-step n i cs h ∙ ap (λ b. cond b 1 0 + onCount (n - (i + 1)) (drop (i + 1) cs)) t in
-      let cubes : onCubes p (n - i) (drop (i * p) ts) (drop i cs) ≡ cubeAt p i ts ∷ R = cubes-step n i cs h p ts ∙ ap (λ b. cond b (cubeAt p i ts ∷ R) R) t in
-      (
+      let cubes : onCubes p (n - i) (drop (i * p) ts) (drop i cs) ≡ cubeAt p i ts ∷ R = cubes-step n i cs h p ts ∙ ap (λ b. cond b (cubeAt p i ts ∷ R) R) t in (
         omega (arith, count, inv .0),
         ap (λ L. L ++ flat R) (solution-more p on (cubeAt p i ts) S fits size) ∙ append-assoc (take (on * p) S) (cubeAt p i ts) (flat R)
-        ∙ ap (λ C. take (on * p) S ++ flat C) (sym cubes) ∙ inv .1,
+            ∙ ap (λ C. take (on * p) S ++ flat C) (sym cubes) ∙ inv .1,
         solution-left p on (cubeAt p i ts) S fits size E (inv .2),
         cards-more on N room (inv .3),
         cards-left on N room F (inv .4),
@@ -114,8 +113,7 @@ copying-all p n ts cs E F on S N l m inv =
     let count : on ≡ onCount n cs = omega (arith, inv .0, ap (λ k. onCount k (drop n cs)) f) in
     let none : onCubes p (n - n) (drop (n * p) ts) (drop n cs) ≡ [] = ap (λ k. onCubes p k (drop (n * p) ts) (drop n cs)) f in
     let all : take (on * p) S ≡ flat (onCubes p n ts cs) = sym (append-nil (take (on * p) S)) ∙ ap (λ C. take (on * p) S ++ flat C) (sym none) ∙ inv .1 in
-    let size : length (flat (onCubes p n ts cs)) ≡ on * p = ap length (sym all) ∙ length-take-le (on * p) S l in
-    (
+    let size : length (flat (onCubes p n ts cs)) ≡ on * p = ap length (sym all) ∙ length-take-le (on * p) S l in (
       count,
       overlay-is (on * p) (flat (onCubes p n ts cs)) S E size all (inv .2),
       overlay-is on (replicate (onCount n cs) blank) N F (length-replicate (onCount n cs) blank ∙ sym count) (inv .3 ∙ ap (λ k. replicate k blank) count) (inv .4),

@@ -26,7 +26,7 @@ use Rattle.faults.specs.declared.Cause.the-variants.{Shape, Area, Empty, Outsid
 use mathlib.Core.Logic.{_⊎_, inl, inr}
 use Rattle.std.proofs.shelf.Tests.{le-ltb, ltb-false, eqb-true}
 use Rattle.std.proofs.shelf.Ways.{tells}
-use Rattle.table.specs.Filling.{Verdict, _then_, areaVerdict, sizesVerdict, shapeVerdict, whole, universeOf, emptyVerdict, outsideVerdict, repeatVerdict, addVerdict}
+use Rattle.table.specs.Filling.{Verdict, _then_, areaVerdict, sizesVerdict, shapeVerdict, whole, universeOf, emptyVerdict, outsideVerdict, repeatVerdict, fullVerdict, addVerdict}
 
 -- what is left of the first p, from k on
 left : (p k : ℕ) (xs : List ℕ) → k < p → p ≤ length xs → drop k (take p xs) ≡ getD xs k 0 ∷ drop (k + 1) (take p xs)
@@ -121,7 +121,7 @@ empty-end f xs k h = rw (drop-all k (map f xs) (rw length-map h))
 pub outside-step : {X : Type 0} (f : ℕ → ℕ) (s : X → ℕ) (xs : List ℕ) (us : List X) (k : ℕ) (u : X) → k < length xs → k < length us → u ≡ getD us k u
     → outsideVerdict k (drop k (map f xs)) (drop k (map s us))
     ≡ cond (eqb (minus (f (getD xs k 0)) (s u)) 0) (outsideVerdict (k + 1) (drop (k + 1) (map f xs)) (drop (k + 1) (map s us)))
-      (Err (Outside k (trailingZeros 64 (minus (f (getD xs k 0)) (s u)))))
+    (Err (Outside k (trailingZeros 64 (minus (f (getD xs k 0)) (s u)))))
 outside-step f s xs us k u h l e = rw (word-left f xs k h, row-left s us k u l e, add-one)
 
 pub outside-end : (A U : List ℕ) (k : ℕ) → (length A ≤ k) ⊎ (length U ≤ k) → outsideVerdict k (drop k A) (drop k U) ≡ Ok tt
@@ -190,12 +190,12 @@ rows-left p (suc n) (suc i) ts cs h =
     let f : suc i + 1 ≡ suc (i + 1) = omega arith in
     rw f (rows-left p n i (drop p ts) (drop 1 cs) (omega arith)
     ∙ ap₂ (λ (A : List ℕ) (c : Card). record { cube = take p A; on = isOn c } ∷ drop (i + 1) (rowsOf p n (drop p ts) (drop 1 cs)))
-      (drop-drop (i * p) p ts ∙ ap (λ m. drop m ts) e) (getD-drop 1 cs i blank ∙ ap (λ m. getD cs m blank) (one-add i)))
+    (drop-drop (i * p) p ts ∙ ap (λ m. drop m ts) e) (getD-drop 1 cs i blank ∙ ap (λ m. getD cs m blank) (one-add i)))
 
 pub repeat-step : (kind : Kind) (A : Cube) (p n i : ℕ) (ts : List ℕ) (cs : List Card) → i < n
     → repeatVerdict kind A i (drop i (rowsOf p n ts cs))
     ≡ cond (Bool·beq (isOn (getD cs i blank)) (isOnKind kind) && same-parts (cubeAt p i ts) A) (Err (Repeat i (kindNumber kind)))
-      (repeatVerdict kind A (i + 1) (drop (i + 1) (rowsOf p n ts cs)))
+    (repeatVerdict kind A (i + 1) (drop (i + 1) (rowsOf p n ts cs)))
 repeat-step kind A p n i ts cs h = rw (rows-left p n i ts cs h, add-one)
 
 pub repeat-end : (kind : Kind) (A : Cube) (p n i : ℕ) (ts : List ℕ) (cs : List Card) → n ≤ i → repeatVerdict kind A i (drop i (rowsOf p n ts cs)) ≡ Ok tt
@@ -209,14 +209,18 @@ then-both (Err c) w e = let z : _≡_ {A = ℕ} 0 1 = cc in absurd (omega arith)
 pub add-room : (p rows : ℕ) (kind : Kind) (A us ts : List ℕ) (cs : List Card) → 1 ≤ p → addVerdict p rows kind A us ts cs ≡ Ok tt
     → (p ≤ length us) × (rows * p + p ≤ length ts) × (rows < length cs) × (rows < 512)
 add-room p rows kind A us ts cs h e =
-    let (one, e2) = then-both _ _ e in
-    let (two, e3) = then-both _ _ e2 in
-    let (no-empty, e4) = then-both (emptyVerdict 0 A) _ e3 in
-    let (no-outside, e5) = then-both (outsideVerdict 0 A (take p us)) _ e4 in
-    let (no-repeat, full) = then-both (repeatVerdict kind A 0 (rowsOf p rows ts cs)) _ e5 in
     let has = areaLength p (length ts) (length cs) in
-    let t = passed (leb 512 rows || leb has rows) (Full rows) (Ok tt) full .0 in
+    let full = fullVerdict rows has in
+    let again = repeatVerdict kind A 0 (rowsOf p rows ts cs) then full in
+    let beyond = outsideVerdict 0 A (take p us) then again in
+    let row = emptyVerdict 0 A then beyond in
+    let first = then-both (areaVerdict 1 (length us) p) (areaVerdict 2 has rows then row) e in
+    let second = then-both (areaVerdict 2 has rows) row (first .1) in
+    let third = then-both (emptyVerdict 0 A) beyond (second .1) in
+    let fourth = then-both (outsideVerdict 0 A (take p us)) again (third .1) in
+    let fifth = then-both (repeatVerdict kind A 0 (rowsOf p rows ts cs)) full (fourth .1) in
+    let t : (leb 512 rows || leb has rows) ≡ false = passed (leb 512 rows || leb has rows) (Full rows) (Ok tt) (fifth .1) .0 in
     let l : rows < has = grind (arith, tells) in
     let few : rows < 512 = grind (arith, tells) in
     let f = fits-area p (length ts) (length cs) (rows + 1) h (omega arith) in
-    (area-passed 1 (length us) p one, omega (arith, f .0, add-mul rows 1 p, one-mul p), omega arith, few)
+    (area-passed 1 (length us) p (first .0), omega (arith, f .0, add-mul rows 1 p, one-mul p), omega arith, few)

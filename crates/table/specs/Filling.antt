@@ -1,7 +1,8 @@
 -- What Begin and Add check and write. A verdict is `Ok`, or the first refusal whose condition holds.
-use mathlib.Core.Bool.{Bool·beq, cond, _&&_, _||_}
+use mathlib.Core.Bool.{Bool·beq, true, false, cond, _&&_, _||_}
 use mathlib.Core.List.{List, [], _∷_, map}
-use Prim.Native.Nat.{ℕ, suc, _+_, _-_, _%_, _^_}
+use mathlib.Core.Path.{_≡_}
+use Prim.Native.Nat.{ℕ, suc, _+_, _-_, _%_, _^_, _<_}
 use lib.Count.{trailingZeros}
 use lib.Dec.{eqb, leb, ltb}
 use lib.ListN.{length, take}
@@ -9,7 +10,7 @@ use Rattle.std.specs.declared.result.Result.{Result}
 use Rattle.std.specs.declared.result.Result.the-variants.{Ok, Err}
 use Rattle.faults.specs.declared.Cause.{Cause}
 use Rattle.faults.specs.declared.Cause.the-variants.{Shape, Area, Empty, Outside, Repeat, Full}
-use Rattle.parts.specs.Sets.{minus}
+use Rattle.parts.specs.Sets.{has, minus}
 use Rattle.cubes.specs.Cubes.{Cube, same}
 use Rattle.cubes.specs.Tables.{Row}
 use Rattle.table.specs.declared.card.Card.{Card}
@@ -21,7 +22,6 @@ Verdict = Result (Unit {0}) Cause
 
 -- the first verdict where it refuses, else the second
 infixr 20 _then_
-
 abbrev pub _then_ : Verdict → Verdict → Verdict
 _then_ (Ok x) v = v
 _then_ (Err c) v = Err c
@@ -61,6 +61,11 @@ madeRow most words = map (λ w. w % 2 ^ most) words
 abbrev pub emptyVerdict : ℕ → Cube → Verdict
 emptyVerdict k [] = Ok tt
 emptyVerdict k (a ∷ A) = cond (eqb a 0) (Err (Empty k)) (emptyVerdict (suc k) A)
+
+-- v is in the set, and no lower value is: where the set has a value, the zeros at the end of its number say which
+pub record Lowest (s v : ℕ) : Type 0 where
+  pub member : has s v ≡ true
+  pub none-below : (w : ℕ) → w < v → has s w ≡ false
 
 -- the lowest part that has a value which the universe lacks, and the lowest such value
 abbrev pub outsideVerdict : ℕ → Cube → Cube → Verdict

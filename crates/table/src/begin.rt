@@ -65,7 +65,11 @@ fn write_universe<P: Part>(p: usize, sizes: &[usize; 16], universe: &mut [P])
 }
 
 /// Writes the universe, or refuses and writes nothing.
-pub fn begin_universe<P: Part>(p: usize, sizes: &[usize; 16], universe: &mut [P]) -> Result<(), Cause>
+pub fn begin_universe<P: Part>(
+    p: usize,
+    sizes: &[usize; 16],
+    universe: &mut [P],
+) -> Result<(), Cause>
     ensures answer { λ r. ⌜ r ≡ beginVerdict (P·Part .most) p (now (sizes .entry)) (length (now (universe .entry))) ⌝ }
     ensures sets { λ r. ⌜ map set (now (universe .exit)) ≡ cond (isOk r) (overlay (universeOf p (now (sizes .entry))) (map set (now (universe .entry)))) (map set (now (universe .entry))) ⌝ }
     ensures stays { λ r. ⌜ drop (cond (isOk r) p 0) (now (universe .exit)) ≡ drop (cond (isOk r) p 0) (now (universe .entry)) ⌝ }

@@ -7,13 +7,13 @@ ghost use lib.ListN.{length, take, drop, replicate};
 ghost use Rattle.cubes.specs.Areas.{overlay, flat};
 ghost use Rattle.table.specs.Cards.{areaLength};
 ghost use Rattle.table.specs.Opening.{offMost, offList};
+use crate::row::area_length;
 use cubes::area::clear;
 use cubes::area::copy_cube;
 use cubes::area::cube_at;
 use parts::Part;
 use walk::rest::Written;
 use walk::rest::rest_of;
-use crate::row::area_length;
 
 /// The most cubes of an off list.
 pub const OFF_MOST: usize = 4096;

@@ -5,12 +5,12 @@ ghost use lib.ListN.{length, replicate};
 ghost use Rattle.cubes.specs.Areas.{overlay, flat};
 ghost use Rattle.table.specs.Cards.{blank, onCubes, onCount};
 ghost use Rattle.table.specs.Opening.{openVerdict};
+use crate::begin::check_area;
+use crate::card::Card;
 use cubes::area::copy_cube;
 use cubes::area::cube_at;
 use faults::Cause;
 use parts::Part;
-use crate::begin::check_area;
-use crate::card::Card;
 
 impl Card {
     /// All zeros.

@@ -1,22 +1,23 @@
 //! Add: one row more.
 ghost use mathlib.Core.Path.{_≡_};
-ghost use mathlib.Core.Bool.{cond};
+ghost use mathlib.Core.Bool.{cond, true};
 ghost use mathlib.Core.List.{map};
 ghost use Prim.Native.Nat.{ℕ, _+_, _*_, _≤_, _<_};
 ghost use lib.Count.{trailingZeros};
 ghost use lib.ListN.{length, take, drop, set as edited};
 ghost use Rattle.std.specs.Results.{isOk};
 ghost use lib.Seq.{paste};
+ghost use Rattle.parts.specs.Sets.{some};
 ghost use Rattle.cubes.specs.Areas.{putAt};
 ghost use Rattle.cubes.specs.Cubes.{same};
 ghost use Rattle.table.specs.Cards.{rowCard, rowsOf, areaLength, kindNumber, isOnKind};
-ghost use Rattle.table.specs.Filling.{emptyVerdict, outsideVerdict, repeatVerdict, fullVerdict, rowVerdict, addVerdict, madeRow};
-use cubes::area::cube_at;
-use faults::Cause;
-use parts::Part;
+ghost use Rattle.table.specs.Filling.{emptyVerdict, outsideVerdict, repeatVerdict, fullVerdict, rowVerdict, addVerdict, madeRow, Lowest};
 use crate::begin::check_area;
 use crate::card::Card;
 use crate::card::Kind;
+use cubes::area::cube_at;
+use faults::Cause;
+use parts::Part;
 
 impl Kind {
     /// The number that a card has for it.
@@ -62,7 +63,8 @@ fn check_empty<P: Part>(words: &[u64]) -> Result<(), Cause>
 
 // The lowest value of a set, which has one: its values are gathered into a word, one by one.
 fn lowest<P: Part>(values: P) -> usize
-    ensures { λ r. ⌜ r ≡ trailingZeros 64 (set values) ⌝ }
+    ensures value { λ r. ⌜ r ≡ trailingZeros 64 (set values) ⌝ }
+    ensures least { λ r. ⌜ (some (set values) ≡ true → Lowest (set values) r) ⌝ }
 {
     let mut word: u64 = 0;
     for v in 0..P::most_values() {

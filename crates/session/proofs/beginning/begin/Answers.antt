@@ -10,12 +10,12 @@ pub returns-in-Ok : need.returns-in-Ok
 returns-in-Ok g c =
     let s = g .P·Part .set in
     let v : beginVerdict (g .P·Part .most) (c .args .p) (c .args .sizes .now) (length (map s (c .args .universe .now))) ≡ Ok tt =
-      ap (beginVerdict (g .P·Part .most) (c .args .p) (c .args .sizes .now)) (length-map (c .args .universe .now) s) ∙ sym (c .in-Ok .ensures tt .answer) in
+    ap (beginVerdict (g .P·Part .most) (c .args .p) (c .args .sizes .now)) (length-map (c .args .universe .now) s) ∙ sym (c .in-Ok .ensures tt .answer) in
     record { answer = rw v; sets = rw v (c .in-Ok .ensures tt .sets); stays = c .in-Ok .ensures tt .stays }
 
 pub returns-in-Err : need.returns-in-Err
 returns-in-Err g c =
     let s = g .P·Part .set in
     let v : beginVerdict (g .P·Part .most) (c .args .p) (c .args .sizes .now) (length (map s (c .args .universe .now))) ≡ Err (c .in-Err .cause) =
-      ap (beginVerdict (g .P·Part .most) (c .args .p) (c .args .sizes .now)) (length-map (c .args .universe .now) s) ∙ sym (c .in-Err .ensures tt .answer) in
+    ap (beginVerdict (g .P·Part .most) (c .args .p) (c .args .sizes .now)) (length-map (c .args .universe .now) s) ∙ sym (c .in-Err .ensures tt .answer) in
     record { answer = rw v; sets = rw v (c .in-Err .ensures tt .sets); stays = c .in-Err .ensures tt .stays }

@@ -27,12 +27,12 @@ returns-in-Err g c =
     let s = g .P·Part .set in
     let t = filling (c .args .t) in
     let back : (r : Table × Fault) → r ≡ (c .args .t, byEngine (c .in-Err .cause))
-        → leaving (Err (filling (r .0), r .1)) (map s (c .args .off .now)) (map s (c .args .solution .now)) (c .args .cards .now) (map s (c .args .work .now)) (c .args .numbers .now)
-          ≡ leaving (Err (t, byEngine (c .in-Err .cause))) (map s (c .args .off .now)) (map s (c .args .solution .now)) (c .args .cards .now) (map s (c .args .work .now)) (c .args .numbers .now) =
-      λ r e. ap (λ (r : Table × Fault). leaving (Err (filling (r .0), r .1)) (map s (c .args .off .now)) (map s (c .args .solution .now)) (c .args .cards .now) (map s (c .args .work .now)) (c .args .numbers .now)) e in
+    → leaving (Err (filling (r .0), r .1)) (map s (c .args .off .now)) (map s (c .args .solution .now)) (c .args .cards .now) (map s (c .args .work .now)) (c .args .numbers .now)
+    ≡ leaving (Err (t, byEngine (c .in-Err .cause))) (map s (c .args .off .now)) (map s (c .args .solution .now)) (c .args .cards .now) (map s (c .args .work .now)) (c .args .numbers .now) =
+    λ r e. ap (λ (r : Table × Fault). leaving (Err (filling (r .0), r .1)) (map s (c .args .off .now)) (map s (c .args .solution .now)) (c .args .cards .now) (map s (c .args .work .now)) (c .args .numbers .now)) e in
     record {
       leaves = back (c .refused .result) (c .refused .ensures)
-        ∙ leaves-refused s t (c .args .universe .now) (c .args .table .now) (c .args .rows .now) (c .args .off .now) (c .args .solution .now) (c .args .cards .now) (c .args .work .now) (c .args .numbers .now)
+          ∙ leaves-refused s t (c .args .universe .now) (c .args .table .now) (c .args .rows .now) (c .args .off .now) (c .args .solution .now) (c .args .cards .now) (c .args .work .now) (c .args .numbers .now)
           (c .area-length .result) (c .area-length-2 .result) (c .area-length-3 .result) (c .check-open .result) (c .area-length .ensures) (c .area-length-2 .ensures) (c .area-length-3 .ensures) (c .check-open .ensures) (c .in-Err .cause) (c .in-Err .is);
       off-stays = refl;
       solution-stays = refl;
@@ -43,22 +43,28 @@ returns-in-Err g c =
 pub off-list-list-requires : need.off-list-list-requires
 off-list-list-requires g c κs =
     let r = opened-room (g .P·Part .set) (filling (c .args .t)) (c .args .universe .now) (c .args .table .now) (c .args .rows .now) (c .args .off .now) (c .args .solution .now) (c .args .cards .now) (c .args .work .now) (c .args .numbers .now)
-      (c .area-length .result) (c .area-length-2 .result) (c .area-length-3 .result) (c .check-open .result) (c .area-length .ensures) (c .area-length-2 .ensures) (c .area-length-3 .ensures) (c .check-open .ensures) (c .in-rest .is) (c .args .t .some) in
+    (c .area-length .result) (c .area-length-2 .result) (c .area-length-3 .result) (c .check-open .result) (c .area-length .ensures) (c .area-length-2 .ensures) (c .area-length-3 .ensures) (c .check-open .ensures) (c .in-rest .is) (c .args .t .some) in
     record { some = c .args .t .some; full = r .0; fits = r .1; room = r .5 }
 
 pub copy-on-rows-count-requires : need.copy-on-rows-count-requires
 copy-on-rows-count-requires g c κs =
     let r = opened-room (g .P·Part .set) (filling (c .args .t)) (c .args .universe .now) (c .args .table .now) (c .args .rows .now) (c .args .off .now) (c .args .solution .now) (c .args .cards .now) (c .args .work .now) (c .args .numbers .now)
-      (c .area-length .result) (c .area-length-2 .result) (c .area-length-3 .result) (c .check-open .result) (c .area-length .ensures) (c .area-length-2 .ensures) (c .area-length-3 .ensures) (c .check-open .ensures) (c .in-rest .is) (c .args .t .some) in
+    (c .area-length .result) (c .area-length-2 .result) (c .area-length-3 .result) (c .check-open .result) (c .area-length .ensures) (c .area-length-2 .ensures) (c .area-length-3 .ensures) (c .check-open .ensures) (c .in-rest .is) (c .args .t .some) in
     record { fits = r .1; beside = r .2; room = r .3; noted = r .4 }
 
 pub ghost-result : need.ghost-result
 ghost-result g c = (
   c .args .t .some,
-  (c .args .t .few,
-  (c .args .t .most,
-  (omega (arith, c .off-list-list .ensures .count),
-  (omega (arith, c .copy-on-rows-count .ensures .count, on-few (c .args .t .rows) (c .args .rows .now)), tt)))),
+  (
+    c .args .t .few,
+    (
+      c .args .t .most,
+      (
+        omega (arith, c .off-list-list .ensures .count),
+        (omega (arith, c .copy-on-rows-count .ensures .count, on-few (c .args .t .rows) (c .args .rows .now)), tt),
+      ),
+    ),
+  ),
 )
 
 pub returns-then-not-list : need.returns-then-not-list
@@ -77,10 +83,10 @@ returns-then-not-list g c =
     let full : n ≡ most = omega (arith, c .off-list-list .ensures .count) in
     record {
       leaves =
-        ap (λ (r : Table × Fault). leaving (Err (filling (r .0), r .1)) (map s (c .off-list-list .last .off)) (map s (c .args .solution .now)) (c .args .cards .now) (map s (c .off-list-list .last .work)) (c .off-list-list .last .numbers)) e
-        ∙ ap (λ k. leaving (Err (t, byEngine (Off k))) (map s (c .off-list-list .last .off)) (map s (c .args .solution .now)) (c .args .cards .now) (map s (c .off-list-list .last .work)) (c .off-list-list .last .numbers)) full
-        ∙ leaving-same (Err (t, byEngine (Off most))) _ _ _ _ _ _ _ _ _ _ (c .off-list-list .ensures .off) refl refl (c .off-list-list .ensures .work) (c .off-list-list .ensures .numbers)
-        ∙ leaves-full s t (c .args .universe .now) (c .args .table .now) (c .args .rows .now) off (c .args .solution .now) (c .args .cards .now) (c .args .work .now) (c .args .numbers .now)
+          ap (λ (r : Table × Fault). leaving (Err (filling (r .0), r .1)) (map s (c .off-list-list .last .off)) (map s (c .args .solution .now)) (c .args .cards .now) (map s (c .off-list-list .last .work)) (c .off-list-list .last .numbers)) e
+          ∙ ap (λ k. leaving (Err (t, byEngine (Off k))) (map s (c .off-list-list .last .off)) (map s (c .args .solution .now)) (c .args .cards .now) (map s (c .off-list-list .last .work)) (c .off-list-list .last .numbers)) full
+          ∙ leaving-same (Err (t, byEngine (Off most))) _ _ _ _ _ _ _ _ _ _ (c .off-list-list .ensures .off) refl refl (c .off-list-list .ensures .work) (c .off-list-list .ensures .numbers)
+          ∙ leaves-full s t (c .args .universe .now) (c .args .table .now) (c .args .rows .now) off (c .args .solution .now) (c .args .cards .now) (c .args .work .now) (c .args .numbers .now)
           (c .area-length .result) (c .area-length-2 .result) (c .area-length-3 .result) (c .check-open .result) (c .area-length .ensures) (c .area-length-2 .ensures) (c .area-length-3 .ensures) (c .check-open .ensures) (c .in-rest .is) long;
       off-stays = subst (λ (r : Table × Fault). drop (offWritten (Err (filling (r .0), r .1))) (c .off-list-list .last .off) ≡ drop (offWritten (Err (filling (r .0), r .1))) off) (sym e) (c .off-list-list .ensures .off-stays);
       solution-stays = refl;
@@ -105,19 +111,19 @@ returns g c =
     let count : c .off-list-list .result .count ≡ length L = omega (arith, c .off-list-list .ensures .count) in
     let on = c .copy-on-rows-count .ensures .count in
     let room = opened-room s t (c .args .universe .now) (c .args .table .now) (c .args .rows .now) off (c .args .solution .now) (c .args .cards .now) (c .args .work .now) (c .args .numbers .now)
-      (c .area-length .result) (c .area-length-2 .result) (c .area-length-3 .result) (c .check-open .result) (c .area-length .ensures) (c .area-length-2 .ensures) (c .area-length-3 .ensures) (c .check-open .ensures) (c .in-rest .is) (c .args .t .some) in
+    (c .area-length .result) (c .area-length-2 .result) (c .area-length-3 .result) (c .check-open .result) (c .area-length .ensures) (c .area-length-2 .ensures) (c .area-length-3 .ensures) (c .check-open .ensures) (c .in-rest .is) (c .args .t .some) in
     let offs : map s (c .off-list-list .last .off) ≡ overlay (flat (take most L)) (map s off) = c .off-list-list .ensures .off in
     let solution = copied-sets s p n (c .args .table .now) rs (c .copy-on-rows-count .last .solution) (c .args .solution .now) (c .copy-on-rows-count .ensures .cubes) in
     record {
       leaves =
-        ap₂ (λ (m k : ℕ). leaving (Ok (record { p = p; rows = n; off = m; count = k })) (map s (c .off-list-list .last .off)) (map s (c .copy-on-rows-count .last .solution)) (c .copy-on-rows-count .last .notes) (map s (c .off-list-list .last .work)) (c .off-list-list .last .numbers)) count on
-        ∙ leaving-same (Ok (record { p = p; rows = n; off = length L; count = onCount n rs })) _ _ _ _ _ _ _ _ _ _ offs solution (c .copy-on-rows-count .ensures .cards) (c .off-list-list .ensures .work) (c .off-list-list .ensures .numbers)
-        ∙ leaves-open s t (c .args .universe .now) (c .args .table .now) (c .args .rows .now) off (c .args .solution .now) (c .args .cards .now) (c .args .work .now) (c .args .numbers .now)
+          ap₂ (λ (m k : ℕ). leaving (Ok (record { p = p; rows = n; off = m; count = k })) (map s (c .off-list-list .last .off)) (map s (c .copy-on-rows-count .last .solution)) (c .copy-on-rows-count .last .notes) (map s (c .off-list-list .last .work)) (c .off-list-list .last .numbers)) count on
+          ∙ leaving-same (Ok (record { p = p; rows = n; off = length L; count = onCount n rs })) _ _ _ _ _ _ _ _ _ _ offs solution (c .copy-on-rows-count .ensures .cards) (c .off-list-list .ensures .work) (c .off-list-list .ensures .numbers)
+          ∙ leaves-open s t (c .args .universe .now) (c .args .table .now) (c .args .rows .now) off (c .args .solution .now) (c .args .cards .now) (c .args .work .now) (c .args .numbers .now)
           (c .area-length .result) (c .area-length-2 .result) (c .area-length-3 .result) (c .check-open .result) (c .area-length .ensures) (c .area-length-2 .ensures) (c .area-length-3 .ensures) (c .check-open .ensures) (c .in-rest .is) fit;
       off-stays = c .off-list-list .ensures .off-stays;
       solution-stays = copied-stays p n (c .copy-on-rows-count .result) (c .args .table .now) rs (c .copy-on-rows-count .last .solution) (c .args .solution .now) (room .1) on (c .copy-on-rows-count .ensures .cubes);
       work-stays = c .off-list-list .ensures .work-stays;
       exact = exactly-at (g .P·Part .most) p n us ts rs (map s off) (map s (c .args .solution .now)) (omega (arith, length-map (c .args .universe .now) s, room .0)) (omega (arith, length-map (c .args .table .now) s, room .1))
-        (c .off-list-list .result .count) (c .copy-on-rows-count .result) (map s (c .off-list-list .last .off)) (map s (c .copy-on-rows-count .last .solution))
-        count on (offs ∙ ap (λ C. overlay (flat C) (map s off)) (take-all most L few)) solution;
+          (c .off-list-list .result .count) (c .copy-on-rows-count .result) (map s (c .off-list-list .last .off)) (map s (c .copy-on-rows-count .last .solution))
+          count on (offs ∙ ap (λ C. overlay (flat C) (map s off)) (take-all most L few)) solution;
     }

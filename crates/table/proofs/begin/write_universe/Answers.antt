@@ -18,10 +18,9 @@ loop-k-again g c =
     let k = c .loop-k .k in
     let few = shape-few (g .P·Part .most) (c .args .p) (c .args .sizes .now) (c .pre .shape) in
     let l : k < length (c .args .sizes .now) = omega arith in
-    let v : k < length (map s (c .args .universe .now)) = rw length-map (omega arith) in
-    (
+    let v : k < length (map s (c .args .universe .now)) = rw length-map (omega arith) in (
       map-set s (c .loop-k .universe) k (c .whole .result)
-      ∙ universe-more k (c .args .sizes .now) (map s (c .loop-k .universe)) (map s (c .args .universe .now)) (s (c .whole .result)) l v (c .loop-k .inv .0) (c .whole .ensures),
+          ∙ universe-more k (c .args .sizes .now) (map s (c .loop-k .universe)) (map s (c .args .universe .now)) (s (c .whole .result)) l v (c .loop-k .inv .0) (c .whole .ensures),
       drop-set-lt (c .args .p) (c .loop-k .universe) k (c .whole .result) (c .loop-k-test .taken) ∙ c .loop-k .inv .1,
     )
 

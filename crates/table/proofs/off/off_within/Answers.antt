@@ -12,8 +12,7 @@ use Rattle.table.proofs.off.off_within.Needs as need
 
 pub copy-cube-requires : need.copy-cube-requires
 copy-cube-requires g c κs =
-    let p = c .args .p in
-    (
+    let p = c .args .p in (
       ap length (c .cube-at .ensures) ∙ length-cubeAt p 0 (c .args .universe .now) (first-fits p (length (c .args .universe .now)) (c .pre .full)),
       first-fits p (length (c .args .work .now)) (one-fits p (c .args .rows) (length (c .args .work .now)) (c .pre .fits)),
     )
@@ -28,8 +27,8 @@ returns g c =
     let p = c .args .p in
     let list = cubes p (c .args .rows) (map s (c .args .table .now)) in
     let start : cubeAt p 0 (map s (c .copy-cube .last .dst)) ≡ take p (map s (c .args .universe .now)) =
-      ap (λ W. cubeAt p 0 (map s W)) (c .copy-cube .ensures)
-      ∙ put-first s p (c .cube-at .result .now) (c .args .work .now) (c .args .universe .now) (one-fits p (c .args .rows) (length (c .args .work .now)) (c .pre .fits)) (c .pre .full) (c .cube-at .ensures) in
+    ap (λ W. cubeAt p 0 (map s W)) (c .copy-cube .ensures)
+    ∙ put-first s p (c .cube-at .result .now) (c .args .work .now) (c .args .universe .now) (one-fits p (c .args .rows) (length (c .args .work .now)) (c .pre .fits)) (c .pre .full) (c .cube-at .ensures) in
     record {
       count = c .rest-of-written .ensures .count ∙ ap (λ u. min (c .args .most) (length (rest u list))) start;
       whole = c .rest-of-written .ensures .whole ∙ ap (λ u. leb (length (rest u list)) (c .args .most)) start;

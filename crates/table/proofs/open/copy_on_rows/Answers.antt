@@ -21,11 +21,10 @@ copy-cube-requires g c κs =
     let i = c .loop-i .i in
     let fits : i * p + p ≤ length (c .args .table .now) = omega (arith, place-below i (c .args .rows) p (c .loop-i-test .taken)) in
     let t : isOn (getD (c .args .cards .now) i blank) ≡ true = eq-eqb _ 0 (c .if-cards-i-eq0 .taken) in
-    let e = rw t at (count-step (c .args .rows) i (c .args .cards .now) (c .loop-i-test .taken)) in
-    (
+    let e = rw t at (count-step (c .args .rows) i (c .args .cards .now) (c .loop-i-test .taken)) in (
       ap length (c .cube-at .ensures) ∙ length-cubeAt p i (c .args .table .now) fits,
       on-room p (c .loop-i .on) (onCount (c .args .rows - (i + 1)) (drop (i + 1) (c .args .cards .now))) (onCount (c .args .rows) (c .args .cards .now)) (length (c .loop-i .solution))
-      (omega (arith, c .loop-i .inv .0)) (omega arith),
+          (omega (arith, c .loop-i .inv .0)) (omega arith),
     )
 
 pub index-notes-on : need.index-notes-on
@@ -52,18 +51,18 @@ loop-i-again g c =
     let fits : i * p + p ≤ length ts = omega (arith, place-below i n p (c .loop-i-test .taken)) in
     let count = count-step n i cs (c .loop-i-test .taken) in
     elim (c .if-cards-i-eq0 .came) [
-      then-cards-i-eq0 w ↦
-        let t : isOn (getD cs i blank) ≡ true = eq-eqb _ 0 (w .if-cards-i-eq0 .taken) in
-        let e = rw t at count in
-        let room : on * p + p ≤ length S = on-room p on (onCount (n - (i + 1)) (drop (i + 1) cs)) (onCount n cs) (length S) (omega (arith, c .loop-i .inv .0)) (omega arith) in
-        let noted : on < length N = omega (arith, c .loop-i .inv .0) in
-        let s : c .if-cards-i-eq0 .solution ≡ putAt p on (cubeAt p i ts) S = w .solution-is ∙ w .copy-cube .ensures ∙ ap (λ C. putAt p on C S) (w .cube-at .ensures) in
-        let m : c .if-cards-i-eq0 .notes ≡ set N on blank = w .notes-is ∙ ap (set N on) (w .blank .ensures) in
-        let o : c .if-cards-i-eq0 .on ≡ on + 1 = w .on-is in
-        rw (s, m, o) (copying-on p n ts cs E F i on S N (c .loop-i-test .taken) t (length-cubeAt p i ts fits) room noted (c .loop-i .inv))
-    | else-cards-i-eq0 w ↦
-        let t : isOn (getD cs i blank) ≡ false = ne-eqb _ 0 (w .if-cards-i-eq0 .left) in
-        rw (w .solution-is, w .notes-is, w .on-is) (copying-off p n ts cs E F i on S N (c .loop-i-test .taken) t (c .loop-i .inv))
+      | then-cards-i-eq0 w ↦
+          let t : isOn (getD cs i blank) ≡ true = eq-eqb _ 0 (w .if-cards-i-eq0 .taken) in
+          let e = rw t at count in
+          let room : on * p + p ≤ length S = on-room p on (onCount (n - (i + 1)) (drop (i + 1) cs)) (onCount n cs) (length S) (omega (arith, c .loop-i .inv .0)) (omega arith) in
+          let noted : on < length N = omega (arith, c .loop-i .inv .0) in
+          let s : c .if-cards-i-eq0 .solution ≡ putAt p on (cubeAt p i ts) S = w .solution-is ∙ w .copy-cube .ensures ∙ ap (λ C. putAt p on C S) (w .cube-at .ensures) in
+          let m : c .if-cards-i-eq0 .notes ≡ set N on blank = w .notes-is ∙ ap (set N on) (w .blank .ensures) in
+          let o : c .if-cards-i-eq0 .on ≡ on + 1 = w .on-is in
+          rw (s, m, o) (copying-on p n ts cs E F i on S N (c .loop-i-test .taken) t (length-cubeAt p i ts fits) room noted (c .loop-i .inv))
+      | else-cards-i-eq0 w ↦
+          let t : isOn (getD cs i blank) ≡ false = ne-eqb _ 0 (w .if-cards-i-eq0 .left) in
+          rw (w .solution-is, w .notes-is, w .on-is) (copying-off p n ts cs E F i on S N (c .loop-i-test .taken) t (c .loop-i .inv))
     ]
 
 pub returns : need.returns
@@ -75,5 +74,5 @@ returns g c =
     let inv = rw e at (c .loop-i .inv) in
     let few : c .loop-i .on ≤ onCount n cs = omega (arith, c .loop-i .inv .0) in
     let all = copying-all p n (c .args .table .now) cs (c .args .solution .now) (c .args .notes .now) (c .loop-i .on) (c .loop-i .solution) (c .loop-i .notes)
-      (omega (arith, mul-le-mul-right {m = c .loop-i .on} {n = onCount n cs} p few)) (omega arith) inv in
+    (omega (arith, mul-le-mul-right {m = c .loop-i .on} {n = onCount n cs} p few)) (omega arith) inv in
     record { count = all .0; cubes = all .1; cards = all .2 }

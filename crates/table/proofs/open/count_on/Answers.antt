@@ -12,6 +12,6 @@ pub loop-i-again : need.loop-i-again
 loop-i-again c =
     let e = count-step (c .args .rows) (c .loop-i .i) (c .args .cards .now) (c .loop-i-test .taken) in
     elim (c .if-cards-i-eq0 .came) [
-      then-cards-i-eq0 w ↦ let t : isOn (getD (c .args .cards .now) (c .loop-i .i) blank) ≡ true = eq-eqb _ 0 (w .if-cards-i-eq0 .taken) in let f = rw t at e in (omega (arith, w .on-is), omega (arith, w .on-is))
-    | else-cards-i-eq0 w ↦ let t : isOn (getD (c .args .cards .now) (c .loop-i .i) blank) ≡ false = ne-eqb _ 0 (w .if-cards-i-eq0 .left) in let f = rw t at e in (omega (arith, w .on-is), omega (arith, w .on-is))
+      | then-cards-i-eq0 w ↦ let t : isOn (getD (c .args .cards .now) (c .loop-i .i) blank) ≡ true = eq-eqb _ 0 (w .if-cards-i-eq0 .taken) in let f = rw t at e in (omega (arith, w .on-is), omega (arith, w .on-is))
+      | else-cards-i-eq0 w ↦ let t : isOn (getD (c .args .cards .now) (c .loop-i .i) blank) ≡ false = ne-eqb _ 0 (w .if-cards-i-eq0 .left) in let f = rw t at e in (omega (arith, w .on-is), omega (arith, w .on-is))
     ]

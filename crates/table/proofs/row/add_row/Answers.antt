@@ -34,7 +34,7 @@ returns g c =
     record {
       answer = c .in-Continue-check-add .ensures tt;
       sets = c .write-parts .ensures .sets ∙ paste-all d at A (length (c .args .words .now)) n
-        ∙ ap (λ k. take at d ++ (A ++ drop (at + k) d)) e ∙ ap (λ D. take at d ++ (A ++ D)) (sym (drop-drop p at d));
+          ∙ ap (λ k. take at d ++ (A ++ drop (at + k) d)) e ∙ ap (λ D. take at d ++ (A ++ D)) (sym (drop-drop p at d));
       before = c .write-parts .ensures .before;
       behind = rw e at (c .write-parts .ensures .behind);
       cards = ap (λ k. set (c .args .cards .now) (c .args .rows) (record { kind = k; weight = 0; place = c .args .rows; taken = false; tried = false; out = false })) (c .number .ensures);

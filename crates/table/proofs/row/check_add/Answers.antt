@@ -26,8 +26,8 @@ returns-in-Break-check-area-2 g c =
     let p = c .args .p in
     q .1 ∙ sym (then-ok _ _ (ap (λ k. areaVerdict 1 k p) n ∙ sym (c .in-Continue-check-area .ensures tt))
     ∙ then-err _ _ (q .0)
-      (ap (λ k. areaVerdict 2 (areaLength p k (length (c .args .cards .now))) (c .args .rows)) m ∙ ap (λ k. areaVerdict 2 k (c .args .rows)) (sym (c .area-length .ensures))
-      ∙ sym (c .in-Break-check-area-2 .ensures tt) ∙ ap Err (sym (q .2))))
+    (ap (λ k. areaVerdict 2 (areaLength p k (length (c .args .cards .now))) (c .args .rows)) m ∙ ap (λ k. areaVerdict 2 k (c .args .rows)) (sym (c .area-length .ensures))
+    ∙ sym (c .in-Break-check-area-2 .ensures tt) ∙ ap Err (sym (q .2))))
 
 pub check-row-requires : need.check-row-requires
 check-row-requires g c κs =
@@ -43,7 +43,7 @@ returns g c =
     let p = c .args .p in
     sym (then-ok _ _ (ap (λ k. areaVerdict 1 k p) n ∙ sym (c .in-Continue-check-area .ensures tt))
     ∙ then-ok _ _ (ap (λ k. areaVerdict 2 (areaLength p k (length (c .args .cards .now))) (c .args .rows)) m ∙ ap (λ k. areaVerdict 2 k (c .args .rows)) (sym (c .area-length .ensures))
-      ∙ sym (c .in-Continue-check-area-2 .ensures tt))
+    ∙ sym (c .in-Continue-check-area-2 .ensures tt))
     ∙ ap (λ U. rowVerdict p (c .args .rows) (c .args .kind) (madeRow (g .P·Part .most) (c .args .words .now)) U (map s (c .args .table .now)) (c .args .cards .now))
-      (sym (first-cube p (map s (c .args .universe .now))) ∙ sym (map-cubeAt s p 0 (c .args .universe .now)) ∙ ap (map s) (sym (c .cube-at .ensures)))
+    (sym (first-cube p (map s (c .args .universe .now))) ∙ sym (map-cubeAt s p 0 (c .args .universe .now)) ∙ ap (map s) (sym (c .cube-at .ensures)))
     ∙ sym (c .check-row .ensures))

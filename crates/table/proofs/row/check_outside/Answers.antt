@@ -21,10 +21,10 @@ returns-then-not-is-empty g c =
     let k = c .loop-part .part in
     let m : s (c .outside-values .result) ≡ minus (f (getD (c .args .words .now) k 0)) (s (c .index-universe-part .result)) = c .outside-values .ensures .value ∙ ap (λ n. minus n (s (c .index-universe-part .result))) (c .make .ensures .value) in
     let t : eqb (minus (f (getD (c .args .words .now) k 0)) (s (c .index-universe-part .result))) 0 ≡ false =
-      ap (λ n. eqb n 0) (sym m) ∙ sym (c .is-empty .ensures .value) ∙ c .if-not-is-empty .taken in
+    ap (λ n. eqb n 0) (sym m) ∙ sym (c .is-empty .ensures .value) ∙ c .if-not-is-empty .taken in
     sym (sym (c .loop-part .inv)
     ∙ outside-step f s (c .args .words .now) (c .args .universe .now) k (c .index-universe-part .result) (omega arith) (omega arith) (c .index-universe-part .is)
-    ∙ rw t (ap (λ n. Err (Outside k (trailingZeros 64 n))) (sym m) ∙ ap (λ n. Err (Outside k n)) (sym (c .lowest .ensures))))
+    ∙ rw t (ap (λ n. Err (Outside k (trailingZeros 64 n))) (sym m) ∙ ap (λ n. Err (Outside k n)) (sym (c .lowest .ensures .value))))
 
 pub loop-part-again : need.loop-part-again
 loop-part-again g c =
@@ -32,7 +32,7 @@ loop-part-again g c =
     let f : ℕ → ℕ = λ w. w % 2 ^ g .P·Part .most in
     let k = c .loop-part .part in
     let t : eqb (minus (f (getD (c .args .words .now) k 0)) (s (c .index-universe-part .result))) 0 ≡ true =
-      ap (λ n. eqb n 0) (sym (c .outside-values .ensures .value ∙ ap (λ n. minus n (s (c .index-universe-part .result))) (c .make .ensures .value))) ∙ sym (c .is-empty .ensures .value) ∙ c .if-not-is-empty .left in
+    ap (λ n. eqb n 0) (sym (c .outside-values .ensures .value ∙ ap (λ n. minus n (s (c .index-universe-part .result))) (c .make .ensures .value))) ∙ sym (c .is-empty .ensures .value) ∙ c .if-not-is-empty .left in
     sym (outside-step f s (c .args .words .now) (c .args .universe .now) k (c .index-universe-part .result) (omega arith) (omega arith) (c .index-universe-part .is) ∙ rw t)
     ∙ c .loop-part .inv
 

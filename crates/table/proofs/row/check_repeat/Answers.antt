@@ -26,9 +26,9 @@ returns-then-same-as-row g c =
     let ts = map s (c .args .table .now) in
     let A = madeRow (g .P·Part .most) (c .args .words .now) in
     let k : Bool·beq (isOn (getD (c .args .cards .now) i blank)) (isOnKind (c .args .kind)) ≡ true =
-      ap (Bool·beq (isOn (getD (c .args .cards .now) i blank))) (sym (c .is-on .ensures)) ∙ c .if-cards-i .taken in
+    ap (Bool·beq (isOn (getD (c .args .cards .now) i blank))) (sym (c .is-on .ensures)) ∙ c .if-cards-i .taken in
     let q : same (cubeAt p i ts) A ≡ true =
-      ap (λ B. same B A) (sym (ap (map s) (c .cube-at .ensures) ∙ map-cubeAt s p i (c .args .table .now))) ∙ sym (c .same-as-row .ensures) ∙ c .if-same-as-row .taken in
+    ap (λ B. same B A) (sym (ap (map s) (c .cube-at .ensures) ∙ map-cubeAt s p i (c .args .table .now))) ∙ sym (c .same-as-row .ensures) ∙ c .if-same-as-row .taken in
     sym (sym (c .loop-i .inv) ∙ repeat-step (c .args .kind) A p (c .args .rows) i ts (c .args .cards .now) (c .loop-i-test .taken)
     ∙ rw (k, q) (ap (λ n. Err (Repeat i n)) (sym (c .number .ensures))))
 
@@ -42,9 +42,9 @@ loop-i-again g c =
     let k = Bool·beq (isOn (getD (c .args .cards .now) i blank)) (isOnKind (c .args .kind)) in
     let q = same (cubeAt p i ts) A in
     let t : (k && q) ≡ false = elim (c .else-cards-i .came) [
-      else-cards-i·by·then-cards-i·else-same-as-row w ↦
-        and-right k q (ap (λ B. same B A) (sym (ap (map s) (w .cube-at .ensures) ∙ map-cubeAt s p i (c .args .table .now))) ∙ sym (w .same-as-row .ensures) ∙ w .if-same-as-row .left)
-    | else-cards-i·by·else-cards-i w ↦ and-left k q (ap (Bool·beq (isOn (getD (c .args .cards .now) i blank))) (sym (c .is-on .ensures)) ∙ w .if-cards-i .left)
+      | else-cards-i·by·then-cards-i·else-same-as-row w ↦
+          and-right k q (ap (λ B. same B A) (sym (ap (map s) (w .cube-at .ensures) ∙ map-cubeAt s p i (c .args .table .now))) ∙ sym (w .same-as-row .ensures) ∙ w .if-same-as-row .left)
+      | else-cards-i·by·else-cards-i w ↦ and-left k q (ap (Bool·beq (isOn (getD (c .args .cards .now) i blank))) (sym (c .is-on .ensures)) ∙ w .if-cards-i .left)
     ] in
     sym (repeat-step (c .args .kind) A p (c .args .rows) i ts (c .args .cards .now) (c .loop-i-test .taken) ∙ rw t) ∙ c .loop-i .inv
 

@@ -29,14 +29,14 @@ returns-then-not-is-empty g c =
     let B = map f (c .args .words .now) in
     let m = c .make-part .ensures .value in
     let t : eqb (s x) (f (getD (c .args .words .now) k 0)) ≡ false = ap (eqb (s x)) (sym m) ∙ elim (c .then-not-is-empty .came) [
-      then-not-is-empty·by·then-not-is-empty w ↦
-        other-sets (s x) (s (c .make-part .result)) (empty-is _ (minus (s x) (s (c .make-part .result))) _ _ (c .outside .ensures .value) (c .is-empty .ensures .value) (w .if-not-is-empty .taken))
-    | then-not-is-empty·by·else-not-is-empty·then-not-is-empty-2 w ↦
-        let y = w .index-cube-k-else-not-is-empty .result in
-        let e : s y ≡ s x = ap s (w .index-cube-k-else-not-is-empty .is ∙ getD-default (c .args .cube .now) k y x (c .loop-k-test .taken) ∙ sym (c .index-cube-k .is)) in
-        other-sets′ (s x) (s (c .make-part .result))
-        (ap (λ n. eqb (minus (s (c .make-part .result)) n) 0) (sym e)
-        ∙ empty-is _ (minus (s (c .make-part .result)) (s y)) _ _ (w .outside-else-not-is-empty .ensures .value) (w .is-empty-else-not-is-empty .ensures .value) (w .if-not-is-empty-2 .taken))
+      | then-not-is-empty·by·then-not-is-empty w ↦
+          other-sets (s x) (s (c .make-part .result)) (empty-is _ (minus (s x) (s (c .make-part .result))) _ _ (c .outside .ensures .value) (c .is-empty .ensures .value) (w .if-not-is-empty .taken))
+      | then-not-is-empty·by·else-not-is-empty·then-not-is-empty-2 w ↦
+          let y = w .index-cube-k-else-not-is-empty .result in
+          let e : s y ≡ s x = ap s (w .index-cube-k-else-not-is-empty .is ∙ getD-default (c .args .cube .now) k y x (c .loop-k-test .taken) ∙ sym (c .index-cube-k .is)) in
+          other-sets′ (s x) (s (c .make-part .result))
+          (ap (λ n. eqb (minus (s (c .make-part .result)) n) 0) (sym e)
+          ∙ empty-is _ (minus (s (c .make-part .result)) (s y)) _ _ (w .outside-else-not-is-empty .ensures .value) (w .is-empty-else-not-is-empty .ensures .value) (w .if-not-is-empty-2 .taken))
     ] in
     sym (sym (c .loop-k .inv) ∙ same-step s f (c .args .cube .now) (c .args .words .now) k x (c .loop-k-test .taken) (omega arith) (c .index-cube-k .is)
     ∙ ap (λ b. b && same (drop (k + 1) A) (drop (k + 1) B)) t)
@@ -53,9 +53,9 @@ loop-k-again g c =
     let B = map f (c .args .words .now) in
     let e : s y ≡ s x = ap s (c .index-cube-k-else-not-is-empty .is ∙ getD-default (c .args .cube .now) k y x (c .loop-k-test .taken) ∙ sym (c .index-cube-k .is)) in
     let t : eqb (s x) (f (getD (c .args .words .now) k 0)) ≡ true = ap (eqb (s x)) (sym (c .make-part .ensures .value))
-      ∙ same-sets (s x) (s z) (empty-is _ (minus (s x) (s z)) _ _ (c .outside .ensures .value) (c .is-empty .ensures .value) (c .if-not-is-empty .left))
-        (ap (λ n. eqb (minus (s z) n) 0) (sym e)
-        ∙ empty-is _ (minus (s z) (s y)) _ _ (c .outside-else-not-is-empty .ensures .value) (c .is-empty-else-not-is-empty .ensures .value) (c .if-not-is-empty-2 .left)) in
+    ∙ same-sets (s x) (s z) (empty-is _ (minus (s x) (s z)) _ _ (c .outside .ensures .value) (c .is-empty .ensures .value) (c .if-not-is-empty .left))
+    (ap (λ n. eqb (minus (s z) n) 0) (sym e)
+    ∙ empty-is _ (minus (s z) (s y)) _ _ (c .outside-else-not-is-empty .ensures .value) (c .is-empty-else-not-is-empty .ensures .value) (c .if-not-is-empty-2 .left)) in
     sym (same-step s f (c .args .cube .now) (c .args .words .now) k x (c .loop-k-test .taken) (omega arith) (c .index-cube-k .is)
     ∙ ap (λ b. b && same (drop (k + 1) A) (drop (k + 1) B)) t) ∙ c .loop-k .inv
 

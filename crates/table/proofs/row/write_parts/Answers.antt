@@ -22,10 +22,9 @@ loop-k-again g c =
     let d = map s (c .args .table .now) in
     let h : at + k < length d = rw length-map (omega arith) in
     let l : k < length (map f ws) = rw length-map (omega arith) in
-    let e : s (c .make .result) ≡ getD (map f ws) k 0 = c .make .ensures .value ∙ sym (getD-map f ws k 0 0 (omega arith)) in
-    (
+    let e : s (c .make .result) ≡ getD (map f ws) k 0 = c .make .ensures .value ∙ sym (getD-map f ws k 0 0 (omega arith)) in (
       map-set s (c .loop-k .table) (at + k) (c .make .result) ∙ ap (λ T. set T (at + k) (s (c .make .result))) (c .loop-k .inv .0)
-      ∙ ap (set (paste d at (map f ws) k) (at + k)) e ∙ paste-more d at (map f ws) k 0 h l,
+          ∙ ap (set (paste d at (map f ws) k) (at + k)) e ∙ paste-more d at (map f ws) k 0 h l,
       take-set-le at (c .loop-k .table) (at + k) (c .make .result) (omega arith) ∙ c .loop-k .inv .1,
       drop-set-lt (at + length ws) (c .loop-k .table) (at + k) (c .make .result) (omega arith) ∙ c .loop-k .inv .2,
     )
