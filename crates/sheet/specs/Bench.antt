@@ -1,9 +1,11 @@
 -- The bench: the areas that it has, the states of a sheet, and what each command does there. All is made of what the calls answer and leave.
 use mathlib.Core.Bool.{cond, _||_}
-use mathlib.Core.List.{List, [], map}
+use mathlib.Core.List.{List, [], map, _++_}
 use Prim.Native.Nat.{ℕ, _+_, _-_, _*_}
+use lib.Chars.{codes}
 use lib.Dec.{leb, ltb, eqb}
 use lib.ListN.{replicate, set}
+use Rattle.std.specs.Written.{decimal}
 use Rattle.std.specs.declared.result.Result.{Result}
 use Rattle.std.specs.declared.result.Result.the-variants.{Ok, Err}
 use Rattle.faults.specs.declared.Cause.{Cause}
@@ -50,20 +52,61 @@ fresh p =
       numbers = replicate (workCubes p) 0;
     }
 
--- a table in the areas, and the row in hand, a word for each of sixteen parts
-pub record Sheet-table : Type 0 where
-  pub table : Filling
-  pub row : List ℕ
-  pub memory : Memory
+-- the areas as Begin, Add and Open leave them
+abbrev pub afterBegin : Memory → Begun → Memory
+afterBegin m b =
+    record {
+      universe = b .universe;
+      table = m .table;
+      rows = m .rows;
+      off = m .off;
+      solution = m .solution;
+      cards = m .cards;
+      work = m .work;
+      numbers = m .numbers;
+    }
 
--- The states. `most` is the kind's most; sizes are sixteen, zeros past the parts declared.
+abbrev pub afterAdd : Memory → Added → Memory
+afterAdd m a =
+    record {
+      universe = m .universe;
+      table = a .table;
+      rows = a .rows;
+      off = m .off;
+      solution = m .solution;
+      cards = m .cards;
+      work = m .work;
+      numbers = m .numbers;
+    }
+
+abbrev pub afterOpen : Memory → Opening → Memory
+afterOpen m o =
+    record {
+      universe = m .universe;
+      table = m .table;
+      rows = m .rows;
+      off = o .off;
+      solution = o .solution;
+      cards = o .cards;
+      work = o .work;
+      numbers = o .numbers;
+    }
+
+-- a table that is being filled: its numbers, the parts declared, the universe as a row of words, and the row in hand, both of sixteen words
+pub record Drafted : Type 0 where
+  pub table : Filling
+  pub p : ℕ
+  pub full : List ℕ
+  pub row : List ℕ
+
+-- The states; `most` is the kind's most.
 pub data State : Type 0 where
   -- 0: nothing is said yet
   start : State
-  -- 1: the kind is known: most, sizes, parts declared
+  -- 1: the kind is known: most, sizes (sixteen, zeros past the parts declared), parts declared
   sizing : ℕ → List ℕ → ℕ → State
-  -- 2: the table is begun: most, sizes
-  filling : ℕ → List ℕ → Sheet-table → State
+  -- 2: the table is begun: most, table, areas
+  filling : ℕ → Drafted → Memory → State
   -- 3: the table is open
   opened : Opened → Memory → State
 
@@ -99,91 +142,44 @@ atStart Open = misplaced Open 0
 abbrev pub inHand : List ℕ → List ℕ
 inHand sizes = map whole sizes
 
--- what Add left
-abbrev pub rowAdded : ℕ → List ℕ → Sheet-table → Added → Step
-rowAdded most sizes s a =
-    let m = s .memory in
+-- a word for a part of the row in hand
+abbrev pub valued : Drafted → ℕ → ℕ → Drafted
+valued d part word = record { table = d .table; p = d .p; full = d .full; row = set (d .row) part word }
+
+-- what Add left: the next row starts from the universe again
+abbrev pub rowAdded : ℕ → Drafted → Memory → Added → Step
+rowAdded most d m a =
     elim (a .answer) [
-      | Ok t ↦ Ok (
-        filling most sizes
-            (record {
-              table = t;
-              row = inHand sizes;
-              memory = record {
-                universe = m .universe;
-                table = a .table;
-                rows = a .rows;
-                off = m .off;
-                solution = m .solution;
-                cards = m .cards;
-                work = m .work;
-                numbers = m .numbers;
-              };
-            }),
-        [],
-      )
+      | Ok t ↦ Ok (filling most (record { table = t; p = d .p; full = d .full; row = d .full }) (afterAdd m a), [])
       | Err e ↦ Err (e .1)
     ]
 
--- what Open left; the line has ON rows and off cubes
-abbrev pub tableOpened : (ℕ → ℕ → List ℕ) → Sheet-table → Opening → Step
-tableOpened line s o =
-    let m = s .memory in
+abbrev pub adding : ℕ → Drafted → kinds.Kind → Memory → Step
+adding most d kind m = rowAdded most d m (added most (d .table) kind (d .row) (m .universe) (m .table) (m .rows))
+
+-- O prints the ON rows and the off cubes
+abbrev pub openLine : ℕ → ℕ → List ℕ
+openLine on off = codes "O " ++ (decimal on ++ (codes " " ++ (decimal off ++ codes "\n")))
+
+-- what Open left
+abbrev pub tableOpened : Memory → Opening → Step
+tableOpened m o =
     elim (o .answer) [
-      | Ok t ↦ Ok (
-        opened t
-            (record {
-              universe = m .universe;
-              table = m .table;
-              rows = m .rows;
-              off = o .off;
-              solution = o .solution;
-              cards = o .cards;
-              work = o .work;
-              numbers = o .numbers;
-            }),
-        line (t .count) (t .off),
-      )
+      | Ok t ↦ Ok (opened t (afterOpen m o), openLine (t .count) (t .off))
       | Err e ↦ Err (e .1)
     ]
 
-module _ (line : ℕ → ℕ → List ℕ) (most : ℕ) (sizes : List ℕ) where
-  abbrev pub atFilling : Sheet-table → Command → Step
-  atFilling s (Kind k) = misplaced (Kind k) 2
-  atFilling s (Size n) = misplaced (Size n) 2
-  atFilling s (Value part word) =
-      cond (ltb part (s .table .p)) (Ok (filling most sizes (record { table = s .table; row = set (s .row) part word; memory = s .memory }), []))
-      (Err (bySheet (Operand part)))
-  atFilling s On = let m = s .memory in rowAdded most sizes s (added most (s .table) kind.On (s .row) (m .universe) (m .table) (m .rows))
-  atFilling s Dc = let m = s .memory in rowAdded most sizes s (added most (s .table) kind.Dc (s .row) (m .universe) (m .table) (m .rows))
-  atFilling s Open =
-      let m = s .memory in
-      tableOpened line s (opening (s .table) (m .universe) (m .table) (m .rows) (m .off) (m .solution) (m .cards) (m .work) (m .numbers))
+abbrev pub openingTable : Filling → Memory → Step
+openingTable t m = tableOpened m (opening t (m .universe) (m .table) (m .rows) (m .off) (m .solution) (m .cards) (m .work) (m .numbers))
 
-  -- the table begins, and then the command is obeyed
-  abbrev pub begins : ℕ → Command → Step
-  begins p c =
-      let m = fresh p in
-      let b = begun most p sizes (m .universe) in
-      elim (b .answer) [
-        | Ok t ↦ atFilling
-            (record {
-              table = t;
-              row = inHand sizes;
-              memory = record {
-                universe = b .universe;
-                table = m .table;
-                rows = m .rows;
-                off = m .off;
-                solution = m .solution;
-                cards = m .cards;
-                work = m .work;
-                numbers = m .numbers;
-              };
-            })
-            c
-        | Err f ↦ Err f
-      ]
+abbrev pub atFilling : ℕ → Drafted → Memory → Command → Step
+atFilling most d m (Kind k) = misplaced (Kind k) 2
+atFilling most d m (Size n) = misplaced (Size n) 2
+atFilling most d m (Value part word) =
+    cond (ltb part (d .p)) (Ok (filling most (valued d part word) m, [])) (Err (bySheet (Operand part)))
+atFilling most d m On = adding most d kind.On m
+atFilling most d m Dc = adding most d kind.Dc m
+atFilling most d m Open = openingTable (d .table) m
 
 -- ---- state 1
 
@@ -193,14 +189,28 @@ partDeclared most sizes p size =
     cond (leb 16 p) (Err (byTable (Shape (p + 1) 0)))
     (cond (ltb size 1 || ltb most size) (Err (byTable (Shape p size))) (Ok (sizing most (set sizes p size) (p + 1), [])))
 
-abbrev pub atSizing : (ℕ → ℕ → List ℕ) → ℕ → List ℕ → ℕ → Command → Step
-atSizing line most sizes p (Kind k) = misplaced (Kind k) 1
-atSizing line most sizes p (Size n) = partDeclared most sizes p n
-atSizing line most sizes p (Value part word) =
-    cond (ltb part p) (begins line most sizes p (Value part word)) (Err (bySheet (Operand part)))
-atSizing line most sizes p On = begins line most sizes p On
-atSizing line most sizes p Dc = begins line most sizes p Dc
-atSizing line most sizes p Open = begins line most sizes p Open
+-- what Begin left; the universe is in hand
+abbrev pub tableBegun : List ℕ → ℕ → Memory → Begun → Result (Drafted × Memory) Fault
+tableBegun sizes p m b =
+    elim (b .answer) [
+      | Ok t ↦ Ok (record { table = t; p = p; full = inHand sizes; row = inHand sizes }, afterBegin m b)
+      | Err f ↦ Err f
+    ]
+
+abbrev pub beginning : ℕ → List ℕ → ℕ → Memory → Result (Drafted × Memory) Fault
+beginning most sizes p m = tableBegun sizes p m (begun most p sizes (m .universe))
+
+-- the table begins in fresh areas, and the command is obeyed in state 2
+abbrev pub begins : ℕ → List ℕ → ℕ → Command → Step
+begins most sizes p c = elim (beginning most sizes p (fresh p)) [ Ok b ↦ atFilling most (b .0) (b .1) c | Err f ↦ Err f ]
+
+abbrev pub atSizing : ℕ → List ℕ → ℕ → Command → Step
+atSizing most sizes p (Kind k) = misplaced (Kind k) 1
+atSizing most sizes p (Size n) = partDeclared most sizes p n
+atSizing most sizes p (Value part word) = cond (ltb part p) (begins most sizes p (Value part word)) (Err (bySheet (Operand part)))
+atSizing most sizes p On = begins most sizes p On
+atSizing most sizes p Dc = begins most sizes p Dc
+atSizing most sizes p Open = begins most sizes p Open
 
 -- ---- state 3
 

@@ -1,11 +1,9 @@
 -- The lines that a sheet prints.
 use mathlib.Core.Bool.{cond}
 use mathlib.Core.List.{List, [], _++_}
-use Prim.Native.Nat.{ℕ, zero, suc, _+_}
-use lib.Chars.{codes}
+use Prim.Native.Nat.{ℕ, zero, suc, _-_}
 use lib.Dec.{ltb}
 use lib.ListN.{length, drop}
-use Rattle.std.specs.Written.{decimal}
 use Rattle.std.specs.declared.option.Option.{Option}
 use Rattle.std.specs.declared.option.Option.the-variants.{Some, None}
 use Rattle.std.specs.declared.result.Result.{Result}
@@ -17,30 +15,33 @@ use Rattle.commands.specs.declared.Command.{Command}
 use Rattle.commands.specs.Commands.{reading, width}
 use Rattle.sheet.specs.Bench.{State, start, sizing, filling, opened, Step, bySheet, atStart, atSizing, atFilling, atOpen}
 
--- O prints the ON rows and the off cubes
-abbrev pub openLine : ℕ → ℕ → List ℕ
-openLine on off = codes "O " ++ (decimal on ++ (codes " " ++ (decimal off ++ codes "\n")))
-
 -- what a command does in a state
 abbrev pub obeyed : State → Command → Step
 obeyed start c = atStart c
-obeyed (sizing most sizes p) c = atSizing openLine most sizes p c
-obeyed (filling most sizes s) c = atFilling openLine most sizes s c
+obeyed (sizing most sizes p) c = atSizing most sizes p c
+obeyed (filling most d m) c = atFilling most d m c
 obeyed (opened o m) c = atOpen c
 
--- What is printed from here on: n is at least the number of commands to come and one, `at` is the offset of the bytes that are left.
+-- What is printed for what a command did: its line and what comes after it, or the refusal with the command's offset.
+abbrev pub afterStep : (State → List ℕ) → ℕ → Step → List ℕ
+afterStep more at (Ok r) = r .1 ++ more (r .0)
+afterStep more at (Err f) = refusalLine f at
+
+-- what is printed for what was read
+abbrev pub afterReading : (Command → State → List ℕ) → ℕ → State → Result (Option Command) Cause → List ℕ
+afterReading more at s (Ok (Some c)) = afterStep (more c) at (obeyed s c)
+afterReading more at s (Ok None) = []
+afterReading more at s (Err cause) = refusalLine (bySheet cause) at
+
+-- what is printed in a state for the bytes that are left of a sheet, which ends at `end`; n is more than the commands to come
 abbrev pub printed : ℕ → ℕ → State → List ℕ → List ℕ
-printed zero at s bytes = []
-printed (suc n) at s bytes =
-    elim (reading bytes) [
-      | Ok (Some c) ↦ elim (obeyed s c) [
-        | Ok r ↦ r .1 ++ printed n (at + width c) (r .0) (drop (width c) bytes)
-        | Err f ↦ refusalLine f at
-      ]
-      | Ok None ↦ []
-      | Err cause ↦ refusalLine (bySheet cause) at
-    ]
+printed zero end s bytes = []
+printed (suc n) end s bytes = afterReading (λ c t. printed n end t (drop (width c) bytes)) (end - length bytes) s (reading bytes)
+
+-- a command has a byte at least
+abbrev pub linesFrom : ℕ → State → List ℕ → List ℕ
+linesFrom end s bytes = printed (suc (length bytes)) end s bytes
 
 -- the lines of a sheet, each with its newline
 abbrev pub linesOf : List ℕ → List ℕ
-linesOf sheet = cond (ltb 4096 (length sheet)) (refusalLine (bySheet Long) 0) (printed (suc (length sheet)) 0 start sheet)
+linesOf sheet = cond (ltb 4096 (length sheet)) (refusalLine (bySheet Long) 0) (linesFrom (length sheet) start sheet)

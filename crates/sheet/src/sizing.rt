@@ -1,11 +1,17 @@
 //! State 1: the kind is known, and parts are declared.
 ghost use mathlib.Core.Path.{_≡_};
 ghost use Prim.Native.Nat.{_<_, _≤_};
-ghost use lib.ListN.{length};
+ghost use lib.ListN.{length, replicate};
+ghost use Rattle.std.specs.Of.String.{string-bytes};
 ghost use Rattle.std.specs.Vec.{made};
+ghost use Rattle.std.specs.declared.result.Result.the-variants.{Ok};
+ghost use Rattle.sheet.specs.Bench.{sizing, partDeclared, atSizing};
+ghost use Rattle.sheet.specs.Lines.{linesFrom};
+ghost use Rattle.sheet.specs.Views.{Small, sized};
 use crate::filling::fill_table;
 use crate::stage::by_sheet;
 use crate::stage::misplaced;
+use crate::types::Next;
 use commands::Command;
 use commands::read;
 use faults::Cause;
@@ -16,15 +22,19 @@ use std::alloc::AllocError;
 use std::alloc::Global;
 
 // Declares one part more, after `p` of them.
-fn declare<P: Part>(sizes: &mut [usize; 16], p: usize, size: u8) -> Result<(), Fault>
-    ensures { λ r. ⌜ made r (λ _. p < 16) ⌝ }
+fn declare<P: Part>(sizes: &mut [usize; 16], p: usize, size: u8) -> Result<Next, Fault>
+    requires few { ⌜ p ≤ 16 ⌝ }
+    requires small { ⌜ Small (now sizes) ⌝ }
+    ensures step { λ r. ⌜ sized (P·Part .most) p (Command.Size size) r (now (sizes .exit)) ≡ partDeclared (P·Part .most) (now (sizes .entry)) p size ⌝ }
+    ensures few { λ r. ⌜ made r (λ _. p < 16) ⌝ }
+    ensures small { λ r. ⌜ Small (now (sizes .exit)) ⌝ }
 {
     let size = size as usize;
     if p >= 16 {
         return Err(Fault {
             layer: Layer::Table,
             cause: Cause::Shape {
-                first: 17,
+                first: p + 1,
                 second: 0,
             },
         });
@@ -39,7 +49,28 @@ fn declare<P: Part>(sizes: &mut [usize; 16], p: usize, size: u8) -> Result<(), F
         });
     }
     sizes[p] = size;
-    Ok(())
+    Ok(Next::Part)
+}
+
+// A command in state 1, where `p` parts are declared.
+fn size<P: Part>(sizes: &mut [usize; 16], p: usize, command: Command) -> Result<Next, Fault>
+    requires few { ⌜ p ≤ 16 ⌝ }
+    requires small { ⌜ Small (now sizes) ⌝ }
+    ensures step { λ r. ⌜ sized (P·Part .most) p command r (now (sizes .exit)) ≡ atSizing (P·Part .most) (now (sizes .entry)) p command ⌝ }
+    ensures few { λ r. ⌜ (r ≡ Ok Next.Part → p < 16) ⌝ }
+    ensures small { λ r. ⌜ Small (now (sizes .exit)) ⌝ }
+{
+    match command {
+        Command::Kind(_) => Err(misplaced(command, 1)),
+        Command::Size(size) => declare::<P>(sizes, p, size),
+        Command::Value { part, .. } => {
+            if part as usize >= p {
+                return Err(by_sheet(Cause::Operand { value: part }));
+            }
+            Ok(Next::Table)
+        }
+        Command::On | Command::Dc | Command::Open => Ok(Next::Table),
+    }
 }
 
 /// The lines from the bytes after the kind on.
@@ -49,6 +80,7 @@ pub(crate) fn size_parts<P: Part>(
     end: usize,
 ) -> Result<String, AllocError>
     requires { ⌜ length (now bytes) ≤ end ⌝ }
+    ensures { λ r. ⌜ made r (λ s. string-bytes s ≡ linesFrom end (sizing (P·Part .most) (replicate 16 0) 0) (now (bytes .entry))) ⌝ }
 {
     let mut sizes = [0; 16];
     let mut p = 0;
@@ -58,28 +90,13 @@ pub(crate) fn size_parts<P: Part>(
         match read(bytes) {
             Ok(None) => return Ok(String::new(heap)),
             Err(cause) => return by_sheet(cause).line(heap, at),
-            Ok(Some((command, rest))) => match command {
-                Command::Size(size) => {
-                    if let Err(fault) = declare::<P>(&mut sizes, p, size) {
-                        return fault.line(heap, at);
-                    }
+            Ok(Some((command, rest))) => match size::<P>(&mut sizes, p, command) {
+                Err(fault) => return fault.line(heap, at),
+                Ok(Next::Table) => return fill_table::<P>(heap, p, &sizes, bytes, end),
+                Ok(Next::Part) => {
                     p += 1;
                     bytes = rest;
                 }
-                Command::Kind(_) => return misplaced(command, 1).line(heap, at),
-                Command::Value { part, .. } => {
-                    if part as usize >= p {
-                        return by_sheet(Cause::Operand { value: part }).line(heap, at);
-                    }
-                    return fill_table::<P>(heap, p, &sizes, bytes, end);
-                }
-                Command::On | Command::Dc | Command::Open => return fill_table::<P>(
-                    heap,
-                    p,
-                    &sizes,
-                    bytes,
-                    end,
-                ),
             },
         }
     }

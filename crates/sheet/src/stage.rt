@@ -1,4 +1,4 @@
-//! The states of a sheet that hold a table or a session, and what a command prints.
+//! The end of a state, what is printed, and refusals.
 ghost use mathlib.Core.Path.{_≡_};
 ghost use mathlib.Core.List.{_++_};
 ghost use Rattle.std.specs.Of.String.{string-bytes};
@@ -6,37 +6,53 @@ ghost use Rattle.std.specs.Vec.{made};
 ghost use Rattle.faults.specs.Codes.{refusalLine};
 ghost use Rattle.commands.specs.Commands.{letter};
 ghost use Rattle.sheet.specs.Bench.{bySheet};
+ghost use Rattle.sheet.specs.Views.{saidLine};
+use crate::types::Draft;
+use crate::types::Said;
+use crate::types::Stage;
 use commands::Command;
 use faults::Cause;
 use faults::Fault;
 use faults::Layer;
-use session::Open;
-use session::Table;
 use std::alloc::AllocError;
 use std::alloc::Global;
 
-/// A table with the row in hand, or an open session.
-pub(crate) enum Stage {
-    Filling(Table, [u64; 16]),
-    Opened(Open),
-}
-
-/// What a command prints.
-#[derive(Clone, Copy)]
-pub(crate) enum Said {
-    Nothing,
-    Opened { on: usize, off: usize },
+impl Draft {
+    /// Ends the table.
+    pub(crate) fn close(self) {
+        let Draft {
+            table,
+            p: _,
+            full: _,
+            row: _,
+        } = self;
+        let _ = table.close();
+    }
 }
 
 impl Stage {
     /// Ends what it holds.
     pub(crate) fn close(self) {
         match self {
-            Stage::Filling(table, _) => {
-                let _ = table.close();
-            }
+            Stage::Filling(draft) => draft.close(),
             Stage::Opened(open) => {
                 let _ = open.close();
+            }
+        }
+    }
+}
+
+impl Said {
+    /// The lines so far, and the one that this prints.
+    pub(crate) fn after(self, heap: Global, mut out: String) -> Result<String, AllocError>
+        ensures { λ r. ⌜ made r (λ s. string-bytes s ≡ string-bytes out ++ saidLine self) ⌝ }
+    {
+        match self {
+            Said::Nothing => Ok(out),
+            Said::Opened { on, off } => {
+                let line = format!(heap, "O {on} {off}\n")?;
+                out.push_str(line.as_str())?;
+                Ok(out)
             }
         }
     }

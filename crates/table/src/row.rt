@@ -21,7 +21,7 @@ use parts::Part;
 
 impl Kind {
     /// The number that a card has for it.
-    pub fn number(self) -> u8
+    pub(crate) fn number(self) -> u8
         ensures { λ r. ⌜ r ≡ kindNumber self ⌝ }
     {
         match self {
@@ -31,7 +31,7 @@ impl Kind {
     }
 
     /// Whether it is ON.
-    pub fn is_on(self) -> bool
+    pub(crate) fn is_on(self) -> bool
         ensures { λ r. ⌜ r ≡ isOnKind self ⌝ }
     {
         match self {
