@@ -385,12 +385,17 @@ def cases():
                 yield label, sheet, "/".join(reference.run(sheet))
 
 
+def case_line(sheet, lines):
+    """A case as it is written, without a newline."""
+    return f"{sheet.hex()}|{lines}"
+
+
 def main(words):
     if words not in ([], ["--labels"]):
         sys.stderr.write("usage: cases.py [--labels]\n")
         return 2
     for label, sheet, lines in cases():
-        print(f"{sheet.hex()}|{lines}" + (f"|{label}" if words else ""))
+        print(case_line(sheet, lines) + (f"|{label}" if words else ""))
     return 0
 
 

@@ -1,21 +1,24 @@
 #!/usr/bin/env python3
-"""Checks the tools and the examples: that the second program does what was worked out by hand, on areas of any length too, that the maker of
-sheets says which line is wrong, and that every example's sheet and lines are those of its text.
+"""Checks the tools and what they write: that the second program does what was worked out by hand, on areas of any length too, that the maker
+of sheets says which line is wrong, that every example's sheet and lines are those of its text, and that the programs trials and area_trials
+have the cases and the output that the tools write for them.
 
     python3 tools/check.py            ends with the number of checks, or with what is wrong and status 1
-    python3 tools/check.py --write    first makes the sheet and the lines of every example anew
+    python3 tools/check.py --write    first makes the sheet and the lines of every example, and the cases of both programs, anew
 """
 import os
 import sys
 
 sys.dont_write_bytecode = True
 
+import area_cases  # noqa: E402
 import cases  # noqa: E402
 import reference  # noqa: E402
 import sheet  # noqa: E402
 from reference import DC, NONE, ON, TERNARY, WORD, Areas, Card, Refused, Table  # noqa: E402
 
-EXAMPLES = os.path.join(os.path.dirname(os.path.abspath(__file__)), "..", "examples")
+TOP = os.path.join(os.path.dirname(os.path.abspath(__file__)), "..")
+EXAMPLES = os.path.join(TOP, "examples")
 done = 0
 
 
@@ -329,23 +332,52 @@ def check_examples(write):
         same(f"examples/{name}.out", example(name, ".out").decode(), lines)
 
 
-def check_cases():
-    """The list of cases holds every refusal that a sheet can come to, and stays within its size."""
-    found, size = set(), 0
+# ---------------------------------------------------------------- the cases of trials and area_trials
+
+
+def check_file(name, text, write):
+    """A file of a crate is what a tool writes. What differs is not printed: it is long."""
+    path = os.path.join(TOP, "crates", *name.split("/"))
+    if write:
+        with open(path, "wb") as file:
+            file.write(text.encode())
+    with open(path, "rb") as file:
+        same(f"crates/{name} is what the tools write", file.read() == text.encode(), True)
+
+
+def check_cases(write):
+    """The cases of trials hold every refusal that a sheet can come to, and stay within their size."""
+    found, written = set(), []
     for label, made, lines in cases.cases():
-        size += 2 * len(made) + len(lines) + 2
+        written.append(cases.case_line(made, lines) + "\n")
         found |= {line.split()[2] for line in lines.split("/") if line.startswith("refused")}
     same("refusals in the cases", sorted(found), sorted(set(reference.NAMES.values()) - {"limit", "foreign"}))
-    same("cases under 400 KB", size < 400_000, True)
+    text = "".join(written)
+    same("cases under 400 KB", len(text) < 400_000, True)
+    check_file("trials/stdin", text, write)
+    check_file("trials/stdout", f"{len(written)} cases, 0 wrong\n", write)
+
+
+def check_area_cases(write):
+    """The cases of area_trials hold every refusal that Begin, Add and Open can come to, and stay within their size."""
+    made = list(area_cases.cases())
+    found = {tuple(answer.split()[1:3]) for _, run in made for answer in run.answers if answer.startswith("refused")}
+    expected = {("6", "table"), ("8", "table"), ("8", "engine"), ("9", "table"), ("10", "table"), ("11", "table"), ("12", "table"), ("13", "engine")}
+    same("refusals in the cases on areas", sorted(found), sorted(expected))
+    text, output = area_cases.input_of(made), area_cases.output_of(made)
+    same("cases on areas under 300 KB", len(text) + len(output) < 300_000, True)
+    check_file("area_trials/stdin", text, write)
+    check_file("area_trials/stdout", output, write)
 
 
 def main(words):
     if words not in ([], ["--write"]):
         sys.stderr.write("usage: check.py [--write]\n")
         return 2
-    for check in (check_kinds, check_cubes, check_rests, check_begin, check_add, check_open, check_sheets, check_cases):
+    for check in (check_kinds, check_cubes, check_rests, check_begin, check_add, check_open, check_sheets):
         check()
-    check_examples(bool(words))
+    for check in (check_examples, check_cases, check_area_cases):
+        check(bool(words))
     print(f"{done} checks of tools and examples")
     return 0
 
