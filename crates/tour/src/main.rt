@@ -18,6 +18,7 @@ use table::card::Card;
 use table::card::Kind;
 
 const PARTS: usize = 4;
+
 const SIZES: [usize; 16] = [3, 2, 2, 2, 0, 0, 0, 0, 0, 0, 0, 0, 0, 0, 0, 0];
 
 // The rows: a kind, and a word for each part.
@@ -30,7 +31,13 @@ const ROWS: [(Kind, [u64; 16]); 5] = [
 ];
 
 // Prints a cube behind a word.
-fn show(rt: &LibcRuntime, word: &str, universe: &[Word; PARTS], cubes: &[Word], i: usize) -> Result<(), AnyError> {
+fn show(
+    rt: &LibcRuntime,
+    word: &str,
+    universe: &[Word; PARTS],
+    cubes: &[Word],
+    i: usize,
+) -> Result<(), AnyError> {
     if i >= 64 || cubes.len() < (i + 1) * PARTS {
         return Ok(());
     }
@@ -69,7 +76,10 @@ fn tell(
     table: &[Word],
     off: &[Word],
 ) -> Result<(), AnyError> {
-    println!(rt, "the table, its parts being range, track, light and label:")?;
+    println!(
+        rt,
+        "the table, its parts being range, track, light and label:"
+    )?;
     for i in 0..ROWS.len() {
         let word = match ROWS[i].0 {
             Kind::On => "ON ",
@@ -108,7 +118,17 @@ fn main(rt: LibcRuntime) -> Result<(), AnyError> {
             return refused(&rt, fault);
         }
     };
-    match open(t, &universe, &table, &rows, &mut off, &mut solution, &mut cards, &mut work, &mut numbers) {
+    match open(
+        t,
+        &universe,
+        &table,
+        &rows,
+        &mut off,
+        &mut solution,
+        &mut cards,
+        &mut work,
+        &mut numbers,
+    ) {
         Ok(s) => {
             let told = tell(&rt, &s, &universe, &table, &off);
             let _ = s.close();
