@@ -7,6 +7,8 @@ mod starting;
 mod types;
 
 ghost use mathlib.Core.Path.{_≡_};
+ghost use lib.Dec.{ltb};
+ghost use lib.ListN.{length};
 ghost use Rattle.std.specs.Of.String.{string-bytes};
 ghost use Rattle.std.specs.Vec.{made};
 ghost use Rattle.sheet.specs.Lines.{linesOf};
@@ -26,11 +28,18 @@ use types::Kind;
 /// The most bytes of a sheet.
 pub const SHEET_MOST: usize = 4096;
 
+// Whether there are more bytes than that.
+fn is_long(sheet: &[u8]) -> bool
+    ensures { λ r. ⌜ r ≡ ltb 4096 (length (now (sheet .entry))) ⌝ }
+{
+    sheet.len() > SHEET_MOST
+}
+
 /// The lines for a sheet, newlines included, up to the first refusal. Want of memory is the only error.
 pub fn lines(heap: Global, sheet: &[u8]) -> Result<String, AllocError>
     ensures { λ r. ⌜ made r (λ s. string-bytes s ≡ linesOf (now (sheet .entry))) ⌝ }
 {
-    if sheet.len() > SHEET_MOST {
+    if is_long(sheet) {
         return by_sheet(Cause::Long).line(heap, 0);
     }
     match read(sheet) {
