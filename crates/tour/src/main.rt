@@ -96,9 +96,9 @@ fn tell(
     Ok(())
 }
 
-fn main(rt: LibcRuntime) -> Result<(), AnyError> {
+// Fills the table, opens it and tells of it.
+fn go(rt: &LibcRuntime, t: Table, universe: &[Word; PARTS]) -> Result<(), AnyError> {
     let none = Word::make(0);
-    let mut universe = [none; PARTS];
     let mut table = [none; 32];
     let mut rows = [Card::blank(); 8];
     let mut off = [none; 256];
@@ -106,21 +106,17 @@ fn main(rt: LibcRuntime) -> Result<(), AnyError> {
     let mut cards = [Card::blank(); 8];
     let mut work = [none; 256];
     let mut numbers = [0; 64];
-    let t = match begin(PARTS, &SIZES, &mut universe) {
-        Ok(t) => t,
-        Err(fault) => return refused(&rt, fault),
-    };
-    let t = match fill(t, &universe, &mut table, &mut rows) {
+    let t = match fill(t, universe, &mut table, &mut rows) {
         Ok(t) => t,
         Err(e) => {
             let (t, fault) = e;
             let _ = t.close();
-            return refused(&rt, fault);
+            return refused(rt, fault);
         }
     };
     match open(
         t,
-        &universe,
+        universe,
         &table,
         &rows,
         &mut off,
@@ -130,14 +126,22 @@ fn main(rt: LibcRuntime) -> Result<(), AnyError> {
         &mut numbers,
     ) {
         Ok(s) => {
-            let told = tell(&rt, &s, &universe, &table, &off);
+            let told = tell(rt, &s, universe, &table, &off);
             let _ = s.close();
             told
         }
         Err(e) => {
             let (t, fault) = e;
             let _ = t.close();
-            refused(&rt, fault)
+            refused(rt, fault)
         }
+    }
+}
+
+fn main(rt: LibcRuntime) -> Result<(), AnyError> {
+    let mut universe = [Word::make(0); PARTS];
+    match begin(PARTS, &SIZES, &mut universe) {
+        Ok(t) => go(&rt, t, &universe),
+        Err(fault) => refused(&rt, fault),
     }
 }
