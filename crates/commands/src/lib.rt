@@ -7,7 +7,7 @@ ghost use Rattle.commands.specs.Commands.{letter, written, width, reading, fou
 use faults::Cause;
 
 /// A command with its operands.
-#[derive(Clone, Copy, PartialEq, Eq, Debug)]
+#[derive(Clone, Copy)]
 pub enum Command {
     /// K: the kind of the parts.
     Kind(u8),

@@ -7,7 +7,7 @@ use std::alloc::AllocError;
 use std::alloc::Global;
 
 /// Who refuses: the sheet of commands, the table while it is filled, or the engine from Open onward.
-#[derive(Clone, Copy, PartialEq, Eq, Debug)]
+#[derive(Clone, Copy)]
 pub enum Layer {
     Sheet,
     Table,
@@ -15,7 +15,7 @@ pub enum Layer {
 }
 
 /// What is refused, with its places, in the order in which they are checked.
-#[derive(Clone, Copy, PartialEq, Eq, Debug)]
+#[derive(Clone, Copy)]
 pub enum Cause {
     /// The sheet has over 4,096 bytes.
     Long,
@@ -48,7 +48,7 @@ pub enum Cause {
 }
 
 /// A refusal.
-#[derive(Clone, Copy, PartialEq, Eq, Debug)]
+#[derive(Clone, Copy)]
 pub struct Fault {
     pub layer: Layer,
     pub cause: Cause,

@@ -55,7 +55,7 @@ pub trait Part: Copy {
 }
 
 /// Up to 64 values, a bit for each.
-#[derive(Clone, Copy, PartialEq, Eq, Debug)]
+#[derive(Clone, Copy)]
 pub struct Word(pub u64);
 
 pub impl Part for Word as WordPart {
@@ -99,7 +99,7 @@ pub impl Part for Word as WordPart {
 }
 
 /// The two values 0 and 1, by the mark that is printed for their set: 0, 1, both (X, printed `-`) or none (printed `~`).
-#[derive(Clone, Copy, PartialEq, Eq, Debug)]
+#[derive(Clone, Copy)]
 pub enum Ternary {
     Zero,
     One,

@@ -1,7 +1,7 @@
 //! Cards: what lies beside each cube of table and solution.
 
 /// The card of a cube. Add writes the kind and the starting place of a row; the engine keeps its weights and marks here.
-#[derive(Clone, Copy, PartialEq, Eq, Debug)]
+#[derive(Clone, Copy)]
 pub struct Card {
     /// 0 is an ON row; any other number is a DC row.
     pub kind: u8,
@@ -18,7 +18,7 @@ pub struct Card {
 }
 
 /// Whether a row says what must be held (ON) or what may be (DC, don't care).
-#[derive(Clone, Copy, PartialEq, Eq, Debug)]
+#[derive(Clone, Copy)]
 pub enum Kind {
     On,
     Dc,
