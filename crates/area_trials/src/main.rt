@@ -12,6 +12,8 @@
 //! A refusal is printed with its number, layer and places, and then the rows of the table that is handed back. A side is printed as hexadecimal
 //! numbers: a part by its values, a bit for each; a card by its kind, weight, place and marks (taken 1, tried 2, out 4).
 //! At the start every side is full of something, so that it is seen what stays.
+#![tactic(auto)]
+
 mod areas;
 mod calls;
 mod items;

@@ -1,4 +1,6 @@
 //! The bench: reads a sheet of commands from standard input, and prints its lines.
+#![tactic(auto)]
+
 use std::io::Read;
 
 fn main(rt: HostRuntime) -> anyhow::Result<()> {

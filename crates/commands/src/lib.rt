@@ -1,4 +1,6 @@
 //! The commands of a sheet. A sheet is a row of commands, each a letter with operands of fixed width; `read` takes off the first.
+#![tactic(auto)]
+
 ghost use Rattle.std.specs.Prelude.{◌≡◌, ◌<◌, ◌++◌, length, drop};
 ghost use Rattle.commands.specs.Commands.{letter, written, width, reading, found, AtCommand, ReadBack};
 

@@ -1,4 +1,6 @@
 //! Refusals: what a call says when it does nothing. Each has a number, the layer that refuses, and two places that say what is wrong and where.
+#![tactic(auto)]
+
 ghost use Rattle.std.specs.Prelude.{◌≡◌, IfOk, string_bytes};
 ghost use Rattle.faults.specs.Codes.{number as number_of, name as name_of, first_place, second_place, layer_word, line_of, refusal_line};
 

@@ -1,4 +1,6 @@
 //! The work of Expand on one cube: how far it may grow, in which order its parts grow, and the growth itself.
+#![tactic(auto)]
+
 pub mod apart;
 pub mod grow;
 pub mod over;

@@ -1,4 +1,6 @@
 //! The text of a cube, as the lines of a list have it, written into a lent slice of bytes.
+#![tactic(auto)]
+
 ghost use Rattle.std.specs.Prelude.{◌≡◌, ◌+◌, ◌<◌, ◌≤◌, map, length, IfOk, string_bytes, IsUtf8, decimal};
 ghost use Rattle.cubes.specs.Areas.{overlay};
 ghost use Rattle.listing.specs.Text.{mark, marks, ternary_mark, part_text, gap, cube_text, cube_line, heading_line, Wrote};

@@ -1,4 +1,6 @@
 //! Expand, Drop and Finish on lists of cubes. Each function's contract is a theorem, and its body has nothing to do.
+#![tactic(auto)]
+
 ghost use Rattle.moves.specs.Examples.{AllRight, WorkedProper};
 ghost use Rattle.moves.specs.Theorems.{FirstFirst, PlacesDiffer, EveryTaken, StepsEnough, NoneWaits, BesideMisses, BesideOnce, StartedAt, ListSplits, SpareExact, SpareRest, KeptExact, KeptAlike, OthersChosen, VeiledRest, ExpandKeeps, ExpandAlive, DropKeeps, FinishKeeps, OnStands, StandingApart, CallsStand, ExpandPrime, DropIrredundant, FinishEnds};
 

@@ -1,4 +1,6 @@
 //! Orders of cubes. From the weight and the starting place of two cubes alone an order says whether the first comes before the second.
+#![tactic(auto)]
+
 ghost use Rattle.std.specs.Prelude.{◌≡◌};
 ghost use Rattle.orders.specs.Rules.{Rule, Ordered, place_rule, light_rule, reversed, directed, either_rule, chosen_rule, order_of};
 ghost use Rattle.std.proofs.Common.{rules};

@@ -1,5 +1,7 @@
 //! Kinds of part. A part of a cube is a set of values, all below the most that its kind can have; a kind says how such a set is kept.
 //! In the clauses a set is a number: the value v is a member where bit v is set.
+#![tactic(auto)]
+
 ghost use Rattle.std.specs.Prelude.{◌≡◌, ℕ, ◌^◌, ◌<◌, ◌≤◌};
 ghost use Rattle.parts.specs.Sets.{has};
 ghost use Rattle.parts.specs.Kinds.{Made, Common, Joined, Outside, Emptied, Counted};

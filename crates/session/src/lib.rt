@@ -4,6 +4,8 @@
 //!
 //! What a call leaves in the areas that it may change is said twice: the sets of all places, and which places are the very parts that were
 //! there. How a set that is written is kept is left to its kind of part.
+#![tactic(auto)]
+
 mod adding;
 mod beginning;
 mod ending;

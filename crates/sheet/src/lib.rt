@@ -1,4 +1,6 @@
 //! A sheet of commands, and the lines that the bench prints for it.
+#![tactic(auto)]
+
 mod areas;
 mod filling;
 mod sizing;

@@ -1,4 +1,6 @@
 //! What lies under Begin, Add and Open: the checks in their order, and the writes, on lent slices.
+#![tactic(auto)]
+
 pub mod begin;
 pub mod card;
 pub mod off;

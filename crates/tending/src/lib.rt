@@ -1,4 +1,6 @@
 //! The cards beside the cubes of a solution, while a call runs.
+#![tactic(auto)]
+
 pub mod close;
 pub mod settle;
 pub mod start;

@@ -2,6 +2,8 @@
 //!
 //! The table decides when a ship's name is shown beside its symbol. It has four parts: the range (near, middle, far), the track (steady, turning),
 //! the light (day, night), and the label (short, long). ON rows say when the name must be shown, a DC row when it does not matter.
+#![tactic(auto)]
+
 use cubes::area::cube_at;
 use faults::Fault;
 use listing::cube_text;

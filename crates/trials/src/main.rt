@@ -1,5 +1,7 @@
 //! Runs the sheets of standard input, and says which of them print other lines than they should. A case is a line: the sheet in hexadecimal
 //! digits, `|`, and its lines joined by `/`.
+#![tactic(auto)]
+
 use std::alloc::{AllocError, Global};
 use std::io::{BufRead, BufReader};
 

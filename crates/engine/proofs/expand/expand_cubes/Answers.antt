@@ -11,7 +11,7 @@ use Rattle.tending.specs.Items.{items_of}
 use Rattle.tending.proofs.Places.{cubes_items}
 use Rattle.engine.proofs.Turns.{Turned, first_item, turned_none, turned-some, turned-skip, turned-all, stays_behind, started_behind, expand_is}
 use Rattle.engine.proofs.expand.expand_cubes.Goals as goal
-use Rattle.engine.proofs.expand.expand_cubes.Goals.{in-Some, in-default}
+use Rattle.engine.proofs.expand.expand_cubes.Goals.{in-Some, in_default}
 
 pub loop-i-init : goal.loop-i-init
 loop-i-init g c =
@@ -62,8 +62,8 @@ loop-i-preserved g c =
             stays_behind (left * p) (n * p) w.expand-one-left.new.solution c.loop-i.solution less w.expand-one-left.ensures.parts ∙ c.loop-i.invariant.3,
             stays_behind left n w.expand-one-left.new.cards K c.loop-i.invariant.2 w.expand-one-left.ensures.cards ∙ c.loop-i.invariant.4,
           )
-      | in-default w ↦
-          let first : first_of waits B L ≡ None = sym (w.in-default.ensures.value ∙ first_item p left S K B) in
+      | in_default w ↦
+          let first : first_of waits B L ≡ None = sym (w.in_default.ensures.value ∙ first_item p left S K B) in
           rw (w.solution-is, w.cards-is, w.left-is)
           (turned-skip B act n M i L c.loop-i-test.true first c.loop-i.invariant.0, c.loop-i.invariant.1, c.loop-i.invariant.2, c.loop-i.invariant.3, c.loop-i.invariant.4)
     ]

@@ -26,7 +26,7 @@ loop-i-preserved g c =
     let xs = c.args.solution.now in
     let R = cubes c.args.p c.args.offs (map s c.args.off.now) in
     let C = cubes c.args.p c.args.n (map s xs) in
-    let test = cube_test s c.args.p c.args.n c.loop-i.i xs c.cube-at.result.now (λ f. first_met 0 f R) None c.loop-i-test.true c.cube-at.ensures c.in-default.ensures in
+    let test = cube_test s c.args.p c.args.n c.loop-i.i xs c.cube-at.result.now (λ f. first_met 0 f R) None c.loop-i-test.true c.cube-at.ensures c.in_default.ensures in
     foreign-later R C (foreign_verdict 0 R C) c.loop-i.i c.loop-i.invariant (omega (arith, length-cubes c.args.p c.args.n (map s xs))) test
 
 pub returns : goal.returns

@@ -6,7 +6,7 @@ use Rattle.cubes.proofs.Pairs.{empty_is}
 use Rattle.growth.specs.Missed.{only_missed, Once}
 use Rattle.growth.proofs.Missed.{awaited, awaited_end, awaited-shared, awaited-first, awaited-second, only_once}
 use Rattle.growth.proofs.apart.blocking_part.Goals as goal
-use Rattle.growth.proofs.apart.blocking_part.Goals.{then-is-empty+in-default, else-is-empty}
+use Rattle.growth.proofs.apart.blocking_part.Goals.{then-is-empty+in_default, else-is-empty}
 
 pub returns-in-Some : goal.returns-in-Some
 returns-in-Some g c =
@@ -33,11 +33,11 @@ loop-k-preserved g c =
     let hf : k < length F = omega arith in
     let hr : k < length R = omega arith in
     elim c.if-is-empty.branch [
-      | then-is-empty+in-default w ↦
+      | then-is-empty+in_default w ↦
           let t : some (bit_and (s x) (s y)) ≡ false = ap not (empty_is _ (bit_and (s x) (s y)) _ _ c.common.ensures.value c.is-empty.ensures.value w.if-is-empty.true) in
           ap (λ o. awaited o (k + 1) (drop (k + 1) (map s F)) (drop (k + 1) (map s R))) w.found-is
           ∙ sym (awaited-first s F R k x y hf hr c.index-f-k.is c.index-r-k.is t)
-          ∙ ap (λ o. awaited o k (drop k (map s F)) (drop k (map s R))) (sym w.in-default.is) ∙ c.loop-k.invariant
+          ∙ ap (λ o. awaited o k (drop k (map s F)) (drop k (map s R))) (sym w.in_default.is) ∙ c.loop-k.invariant
       | else-is-empty w ↦
           let t : some (bit_and (s x) (s y)) ≡ true = ap not (empty_is _ (bit_and (s x) (s y)) _ _ c.common.ensures.value c.is-empty.ensures.value w.if-is-empty.false) in
           ap (λ o. awaited o (k + 1) (drop (k + 1) (map s F)) (drop (k + 1) (map s R))) w.found-is

@@ -8,7 +8,7 @@ use Rattle.orders.specs.Searches.{lightest}
 use Rattle.growth.specs.Others.{others}
 use Rattle.growth.proofs.Grown.{Grows, lightest-same, grows_none, grows-skip, grows_some, grows_all}
 use Rattle.growth.proofs.grow.grow.Goals as goal
-use Rattle.growth.proofs.grow.grow.Goals.{in-Some, in-default}
+use Rattle.growth.proofs.grow.grow.Goals.{in-Some, in_default}
 
 pub cube-at-requires : goal.cube-at-requires
 cube-at-requires g c = omega (arith, place_below c.args.at c.args.n c.args.p c.requires.place, c.requires.room)
@@ -78,8 +78,8 @@ loop-i-preserved g c =
             ap (take (at * p)) v.solution-is ∙ v.widen.ensures.before ∙ c.loop-i.invariant.1,
             ap (drop (at * p + p)) v.solution-is ∙ v.widen.ensures.behind ∙ c.loop-i.invariant.2,
           )
-      | in-default v ↦
-          let o : lightest p w (take p c.loop-i.taken) ≡ None = sym same ∙ sym v.in-default.ensures.value in
+      | in_default v ↦
+          let o : lightest p w (take p c.loop-i.taken) ≡ None = sym same ∙ sym v.in_default.ensures.value in
           rw (v.solution-is, v.taken-is)
           (grows-skip p at U R w E i c.loop-i.taken X c.loop-i-test.true o c.loop-i.invariant.0, c.loop-i.invariant.1, c.loop-i.invariant.2)
     ]

@@ -7,7 +7,7 @@ use Rattle.cubes.proofs.Pairs.{read_set}
 use Rattle.growth.specs.Missed.{only_missed}
 use Rattle.growth.proofs.Blocked.{touches_cube, length_read, found_below, blocks-none, blocks-some}
 use Rattle.growth.proofs.over.blocked_words.Goals as goal
-use Rattle.growth.proofs.over.blocked_words.Goals.{in-Some, in-default}
+use Rattle.growth.proofs.over.blocked_words.Goals.{in-Some, in_default}
 
 pub cube-at-r-requires : goal.cube-at-r-requires
 cube-at-r-requires g c = omega (arith, place_below c.loop-j.j c.args.offs c.args.p c.loop-j-test.true)
@@ -69,7 +69,7 @@ loop-j-preserved g c =
           let q : w.word-of.result ≡ get_or (cube_at p j X) k 0 = w.word-of.ensures ∙ sym (read_set s r k x hr w.index-r-k.is) ∙ ap (λ L. get_or L k 0) e in
           let v : c.match-blocking-part.words ≡ set ws k (bit_or (get_or ws k 0) (get_or (cube_at p j X) k 0)) = w.words-is ∙ ap (λ n. set ws k (bit_or (get_or ws k 0) n)) q in
           rw v (length-set ws k _ ∙ c.loop-j.invariant.0, blocks-some p j F X ws size fits apart c.loop-j.invariant.1 k o h)
-      | in-default w ↦
-          let o : only_missed 0 F (cube_at p j X) ≡ None = ap (only_missed 0 F) (sym e) ∙ sym w.in-default.ensures.value in
+      | in_default w ↦
+          let o : only_missed 0 F (cube_at p j X) ≡ None = ap (only_missed 0 F) (sym e) ∙ sym w.in_default.ensures.value in
           rw w.words-is (c.loop-j.invariant.0, blocks-none p j F X ws size fits apart c.loop-j.invariant.1 o)
     ]

@@ -5,5 +5,5 @@ use Rattle.parts.proofs.TernaryPart.is_empty.Goals as goal
 pub returns-in-Void : goal.returns-in-Void
 returns-in-Void c = is_emptied _ _ (search rules)
 
-pub returns-in-default : goal.returns-in-default
-returns-in-default c = is_emptied _ _ (search rules)
+pub returns-in_default : goal.returns-in_default
+returns-in_default c = is_emptied _ _ (search rules)

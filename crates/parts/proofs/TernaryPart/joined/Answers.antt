@@ -11,11 +11,11 @@ returns-in-Zero-Zero c = is_joined _ _ _ (search rules)
 pub returns-in-One-One : goal.returns-in-One-One
 returns-in-One-One c = is_joined _ _ _ (search rules)
 
-pub returns-in-default : goal.returns-in-default
-returns-in-default c = is_joined _ _ _ (search rules)
+pub returns-in_default : goal.returns-in_default
+returns-in_default c = is_joined _ _ _ (search rules)
 
-pub returns-in-default·2 : goal.returns-in-default·2
-returns-in-default·2 c = is_joined _ _ _ (search rules)
+pub returns-in_default-2 : goal.returns-in_default-2
+returns-in_default-2 c = is_joined _ _ _ (search rules)
 
-pub returns-in-default·3 : goal.returns-in-default·3
-returns-in-default·3 c = is_joined _ _ _ (search rules)
+pub returns-in_default-3 : goal.returns-in_default-3
+returns-in_default-3 c = is_joined _ _ _ (search rules)

@@ -11,5 +11,5 @@ returns-in-1 c = is_made 2 _ _ (search rules)
 pub returns-in-2 : goal.returns-in-2
 returns-in-2 c = is_made 2 _ _ (search rules)
 
-pub returns-in-default : goal.returns-in-default
-returns-in-default c = is_made 2 _ _ (search rules)
+pub returns-in_default : goal.returns-in_default
+returns-in_default c = is_made 2 _ _ (search rules)

@@ -35,13 +35,13 @@ returns-in-Err g c =
 pub off-list-list-requires : goal.off-list-list-requires
 off-list-list-requires g c =
     let r = opened-room g.P.Part.set (filling c.args.t) c.args.universe.now c.args.table.now c.args.rows.now c.args.off.now c.args.solution.now c.args.cards.now c.args.work.now c.args.numbers.now
-    c.area-length.result c.area-length-2.result c.area-length-3.result c.check-open.result c.area-length.ensures c.area-length-2.ensures c.area-length-3.ensures c.check-open.ensures c.in-default.is c.args.t.some in
+    c.area-length.result c.area-length-2.result c.area-length-3.result c.check-open.result c.area-length.ensures c.area-length-2.ensures c.area-length-3.ensures c.check-open.ensures c.in_default.is c.args.t.some in
     record { some = c.args.t.some; full = r.0; fits = r.1; room = r.5 }
 
 pub copy-on-rows-count-requires : goal.copy-on-rows-count-requires
 copy-on-rows-count-requires g c =
     let r = opened-room g.P.Part.set (filling c.args.t) c.args.universe.now c.args.table.now c.args.rows.now c.args.off.now c.args.solution.now c.args.cards.now c.args.work.now c.args.numbers.now
-    c.area-length.result c.area-length-2.result c.area-length-3.result c.check-open.result c.area-length.ensures c.area-length-2.ensures c.area-length-3.ensures c.check-open.ensures c.in-default.is c.args.t.some in
+    c.area-length.result c.area-length-2.result c.area-length-3.result c.check-open.result c.area-length.ensures c.area-length-2.ensures c.area-length-3.ensures c.check-open.ensures c.in_default.is c.args.t.some in
     record { fits = r.1; beside = r.2; room = r.3; noted = r.4 }
 
 pub invariant-of-result : goal.invariant-of-result
@@ -79,7 +79,7 @@ returns-then-not-list g c =
           ∙ ap (λ k. leaving (Err (t, by_engine (Off k))) (map s c.off-list-list.new.off) (map s c.args.solution.now) c.args.cards.now (map s c.off-list-list.new.work) c.off-list-list.new.numbers) full
           ∙ leaving-same (Err (t, by_engine (Off most))) _ _ _ _ _ _ _ _ _ _ c.off-list-list.ensures.off refl refl c.off-list-list.ensures.work c.off-list-list.ensures.numbers
           ∙ leaves-full s t c.args.universe.now c.args.table.now c.args.rows.now off c.args.solution.now c.args.cards.now c.args.work.now c.args.numbers.now
-          c.area-length.result c.area-length-2.result c.area-length-3.result c.check-open.result c.area-length.ensures c.area-length-2.ensures c.area-length-3.ensures c.check-open.ensures c.in-default.is long;
+          c.area-length.result c.area-length-2.result c.area-length-3.result c.check-open.result c.area-length.ensures c.area-length-2.ensures c.area-length-3.ensures c.check-open.ensures c.in_default.is long;
       off-stays = subst (λ (r : Table × Fault). drop (off_written (Err (filling r.0, r.1))) c.off-list-list.new.off ≡ drop (off_written (Err (filling r.0, r.1))) off) (sym e) c.off-list-list.ensures.off-stays;
       solution-stays = refl;
       work-stays = subst (λ (r : Table × Fault). drop (work_written (Err (filling r.0, r.1)) (length c.args.work.now) (length c.args.numbers.now)) c.off-list-list.new.work ≡ drop (work_written (Err (filling r.0, r.1)) (length c.args.work.now) (length c.args.numbers.now)) c.args.work.now) (sym e) c.off-list-list.ensures.work-stays;
@@ -103,7 +103,7 @@ returns g c =
     let count : c.off-list-list.result.count ≡ length L = omega (arith, c.off-list-list.ensures.count) in
     let on = c.copy-on-rows-count.ensures.count in
     let room = opened-room s t c.args.universe.now c.args.table.now c.args.rows.now off c.args.solution.now c.args.cards.now c.args.work.now c.args.numbers.now
-    c.area-length.result c.area-length-2.result c.area-length-3.result c.check-open.result c.area-length.ensures c.area-length-2.ensures c.area-length-3.ensures c.check-open.ensures c.in-default.is c.args.t.some in
+    c.area-length.result c.area-length-2.result c.area-length-3.result c.check-open.result c.area-length.ensures c.area-length-2.ensures c.area-length-3.ensures c.check-open.ensures c.in_default.is c.args.t.some in
     let offs : map s c.off-list-list.new.off ≡ overlay (flat (take most L)) (map s off) = c.off-list-list.ensures.off in
     let solution = copied_sets s p n c.args.table.now rs c.copy-on-rows-count.new.solution c.args.solution.now c.copy-on-rows-count.ensures.cubes in
     record {
@@ -111,7 +111,7 @@ returns g c =
           ap₂ (λ (m k : ℕ). leaving (Ok (record { p = p; rows = n; off = m; count = k })) (map s c.off-list-list.new.off) (map s c.copy-on-rows-count.new.solution) c.copy-on-rows-count.new.notes (map s c.off-list-list.new.work) c.off-list-list.new.numbers) count on
           ∙ leaving-same (Ok (record { p = p; rows = n; off = length L; count = on_count n rs })) _ _ _ _ _ _ _ _ _ _ offs solution c.copy-on-rows-count.ensures.cards c.off-list-list.ensures.work c.off-list-list.ensures.numbers
           ∙ leaves-open s t c.args.universe.now c.args.table.now c.args.rows.now off c.args.solution.now c.args.cards.now c.args.work.now c.args.numbers.now
-          c.area-length.result c.area-length-2.result c.area-length-3.result c.check-open.result c.area-length.ensures c.area-length-2.ensures c.area-length-3.ensures c.check-open.ensures c.in-default.is fit;
+          c.area-length.result c.area-length-2.result c.area-length-3.result c.check-open.result c.area-length.ensures c.area-length-2.ensures c.area-length-3.ensures c.check-open.ensures c.in_default.is fit;
       off-stays = c.off-list-list.ensures.off-stays;
       solution-stays = copied_stays p n c.copy-on-rows-count.result c.args.table.now rs c.copy-on-rows-count.new.solution c.args.solution.now room.1 on c.copy-on-rows-count.ensures.cubes;
       work-stays = c.off-list-list.ensures.work-stays;

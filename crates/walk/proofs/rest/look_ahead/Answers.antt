@@ -5,7 +5,7 @@ use Rattle.cubes.proofs.Areas.{place_below}
 use Rattle.walk.specs.Look.{look_of}
 use Rattle.walk.proofs.Looks.{found-gone, found_first, found-later, found_none, found_all, row_test}
 use Rattle.walk.proofs.rest.look_ahead.Goals as goal
-use Rattle.walk.proofs.rest.look_ahead.Goals.{then-meets+else-covers+in-Free, then-meets+else-covers+in-default, else-meets}
+use Rattle.walk.proofs.rest.look_ahead.Goals.{then-meets+else-covers+in-Free, then-meets+else-covers+in_default, else-meets}
 
 pub cube-at-row-requires : goal.cube-at-row-requires
 cube-at-row-requires g c = omega (arith, place_below c.loop-j.j c.args.n c.args.p c.loop-j-test.true)
@@ -39,9 +39,9 @@ loop-j-preserved g c =
       | then-meets+else-covers+in-Free w ↦
           let uncovered = row_test s p j list row (λ b. covers b a) w.covers.result false c.cube-at-row.ensures w.covers.ensures w.if-covers.false in
           found_first p n j (map s list) a c.loop-j-test.true c.loop-j.first o c.loop-j.invariant c.if-meets.first w.in-Free.is w.first-is (met true w.if-meets.true) uncovered
-      | then-meets+else-covers+in-default w ↦
+      | then-meets+else-covers+in_default w ↦
           let uncovered = row_test s p j list row (λ b. covers b a) w.covers.result false c.cube-at-row.ensures w.covers.ensures w.if-covers.false in
-          found-later p n j (map s list) a c.loop-j-test.true c.loop-j.first o c.loop-j.invariant c.if-meets.first w.in-default.not-Free w.first-is (met true w.if-meets.true) uncovered
+          found-later p n j (map s list) a c.loop-j-test.true c.loop-j.first o c.loop-j.invariant c.if-meets.first w.in_default.not-Free w.first-is (met true w.if-meets.true) uncovered
       | else-meets w ↦ found_none p n j (map s list) a c.loop-j-test.true c.loop-j.first o c.loop-j.invariant c.if-meets.first w.first-is (met false w.if-meets.false)
     ]
 
