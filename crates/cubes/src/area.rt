@@ -23,7 +23,7 @@ pub fn copy_cube<P: Part>(dst: &mut [P], i: usize, p: usize, src: &[P])
 
 /// Makes every part of `area` empty.
 pub fn clear<P: Part>(area: &mut [P])
-    ensures { map set area.new ≡ replicate (length area.old) 0 }
+    ensures { map P.set area.new ≡ replicate (length area.old) 0 }
 {
     let none = P::make(0);
     for part in area.iter_mut() {

@@ -6,7 +6,7 @@ use parts::Part;
 
 /// Whether each part of `b` lies within that part of `a`.
 pub fn covers<P: Part>(a: &[P], b: &[P]) -> bool
-    ensures { result ≡ covers_all (map set a.now) (map set b.now) }
+    ensures { result ≡ covers_all (map P.set a.now) (map P.set b.now) }
 {
     let n = a.len().min(b.len());
     for i in 0..n {
@@ -21,7 +21,7 @@ pub fn covers<P: Part>(a: &[P], b: &[P]) -> bool
 
 /// Whether `a` and `b` share a value in every part.
 pub fn meets<P: Part>(a: &[P], b: &[P]) -> bool
-    ensures { result ≡ meets_all (map set a.now) (map set b.now) }
+    ensures { result ≡ meets_all (map P.set a.now) (map P.set b.now) }
 {
     let n = a.len().min(b.len());
     for i in 0..n {

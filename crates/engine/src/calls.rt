@@ -29,10 +29,10 @@ pub fn expand_solution<P: Part, O: Order>(
     requires some { 1 ≤ p }
     requires few { p ≤ 16 }
     requires most { count ≤ 512 }
-    ensures leaves { ◌≡◌ {A = Moved} (record { answer = result; solution = map set solution.new; cards = cards.new }) (expand_call (O.Order.before order.now) p offs count (map set universe.now) (map set off.now) (map set solution.old) cards.old) }
+    ensures leaves { ◌≡◌ {A = Moved} (record { answer = result; solution = map P.set solution.new; cards = cards.new }) (expand_call (O.before order.now) p offs count (map P.set universe.now) (map P.set off.now) (map P.set solution.old) cards.old) }
     ensures stays { drop (if is_ok result then count * p else 0) solution.new ≡ drop (if is_ok result then count * p else 0) solution.old }
-    ensures list { IfOk result (λ n. cubes_in p n (map set solution.new) ≡ expanded_list (O.Order.before order.now) (take p (map set universe.now)) (cubes_in p offs (map set off.now)) (cubes_in p count (map set solution.old))) }
-    ensures apart { IfOk result (λ n. Apart (cubes_in p offs (map set off.now)) (cubes_in p count (map set solution.old))) }
+    ensures list { IfOk result (λ n. cubes_in p n (map P.set solution.new) ≡ expanded_list (O.before order.now) (take p (map P.set universe.now)) (cubes_in p offs (map P.set off.now)) (cubes_in p count (map P.set solution.old))) }
+    ensures apart { IfOk result (λ n. Apart (cubes_in p offs (map P.set off.now)) (cubes_in p count (map P.set solution.old))) }
     ensures fewer { IfOk result (λ n. n ≤ count) }
 {
     let has = Lengths {

@@ -32,10 +32,10 @@ fn expand_one<P: Part>(
     requires fits { offs * p ≤ length off.now }
     requires room { n * p ≤ length solution.old }
     requires beside { n ≤ length cards.old }
-    requires apart { Apart (cubes_in p offs (map set off.now)) (cubes_in p n (map set solution.old)) }
-    ensures items { items_of p result (map set solution.new) cards.new ≡ expanding (take p (map set universe.now)) (cubes_in p offs (map set off.now)) (take at (items_of p n (map set solution.old) cards.old)) (slice_index_or (items_of p n (map set solution.old) cards.old) at no_item) (drop (suc at) (items_of p n (map set solution.old) cards.old)) }
+    requires apart { Apart (cubes_in p offs (map P.set off.now)) (cubes_in p n (map P.set solution.old)) }
+    ensures items { items_of p result (map P.set solution.new) cards.new ≡ expanding (take p (map P.set universe.now)) (cubes_in p offs (map P.set off.now)) (take at (items_of p n (map P.set solution.old) cards.old)) (slice_index_or (items_of p n (map P.set solution.old) cards.old) at no_item) (drop (suc at) (items_of p n (map P.set solution.old) cards.old)) }
     ensures most { result ≤ n }
-    ensures apart { Apart (cubes_in p offs (map set off.now)) (cubes_in p result (map set solution.new)) }
+    ensures apart { Apart (cubes_in p offs (map P.set off.now)) (cubes_in p result (map P.set solution.new)) }
     ensures parts { drop (n * p) solution.new ≡ drop (n * p) solution.old }
     ensures cards { drop n cards.new ≡ drop n cards.old }
 {
@@ -60,8 +60,8 @@ pub fn expand_cubes<P: Part, O: Order>(
     requires fits { offs * p ≤ length off.now }
     requires room { n * p ≤ length solution.old }
     requires beside { n ≤ length cards.old }
-    requires apart { Apart (cubes_in p offs (map set off.now)) (cubes_in p n (map set solution.old)) }
-    ensures list { cubes_in p result (map set solution.new) ≡ expanded_list (O.Order.before order.now) (take p (map set universe.now)) (cubes_in p offs (map set off.now)) (cubes_in p n (map set solution.old)) }
+    requires apart { Apart (cubes_in p offs (map P.set off.now)) (cubes_in p n (map P.set solution.old)) }
+    ensures list { cubes_in p result (map P.set solution.new) ≡ expanded_list (O.before order.now) (take p (map P.set universe.now)) (cubes_in p offs (map P.set off.now)) (cubes_in p n (map P.set solution.old)) }
     ensures most { result ≤ n }
     ensures parts { drop (n * p) solution.new ≡ drop (n * p) solution.old }
     ensures cards { drop n cards.new ≡ drop n cards.old }

@@ -12,7 +12,7 @@ use parts::Part;
 // The first off cube that the cube meets.
 fn first_met<P: Part>(p: usize, cube: &[P], off: &[P], offs: usize) -> Option<usize>
     requires { offs * p ≤ length off.now }
-    ensures { result ≡ first_met 0 (map set cube.now) (cubes_in p offs (map set off.now)) }
+    ensures { result ≡ first_met 0 (map P.set cube.now) (cubes_in p offs (map P.set off.now)) }
 {
     for j in 0..offs {
         if meets(cube, cube_at(off, j, p)) {
@@ -32,8 +32,8 @@ pub fn check_foreign<P: Part>(
 ) -> Result<(), Cause>
     requires fits { n * p ≤ length solution.now }
     requires listed { offs * p ≤ length off.now }
-    ensures value { result ≡ foreign_verdict 0 (cubes_in p offs (map set off.now)) (cubes_in p n (map set solution.now)) }
-    ensures apart { result ≡ Ok tt → Apart (cubes_in p offs (map set off.now)) (cubes_in p n (map set solution.now)) }
+    ensures value { result ≡ foreign_verdict 0 (cubes_in p offs (map P.set off.now)) (cubes_in p n (map P.set solution.now)) }
+    ensures apart { result ≡ Ok tt → Apart (cubes_in p offs (map P.set off.now)) (cubes_in p n (map P.set solution.now)) }
 {
     for i in 0..n {
         if let Some(j) = first_met(p, cube_at(solution, i, p), off, offs) {

@@ -7,7 +7,7 @@ use parts::Part;
 
 /// The set as a word: its values are gathered one by one.
 pub fn word_of<P: Part>(values: P) -> u64
-    ensures { result ≡ set values }
+    ensures { result ≡ P.set values }
 {
     let mut word: u64 = 0;
     for v in 0..P::most_values() {
@@ -21,8 +21,8 @@ pub fn word_of<P: Part>(values: P) -> u64
 /// The part in which the cubes share no value, where there is exactly one such part.
 pub fn blocking_part<P: Part>(f: &[P], r: &[P]) -> Option<usize>
     requires { length f.now ≡ length r.now }
-    ensures value { result ≡ only_missed 0 (map set f.now) (map set r.now) }
-    ensures once { Once (map set f.now) (map set r.now) result }
+    ensures value { result ≡ only_missed 0 (map P.set f.now) (map P.set r.now) }
+    ensures once { Once (map P.set f.now) (map P.set r.now) result }
 {
     let mut found = None;
     for k in 0..f.len() {
@@ -41,7 +41,7 @@ pub fn blocking_part<P: Part>(f: &[P], r: &[P]) -> Option<usize>
 /// Whether the cubes share a value in each part but `k`.
 pub fn meets_beside<P: Part>(f: &[P], r: &[P], k: usize) -> bool
     requires { length f.now ≡ length r.now }
-    ensures { result ≡ beside k (map set f.now) (map set r.now) }
+    ensures { result ≡ beside k (map P.set f.now) (map P.set r.now) }
 {
     for i in 0..f.len() {
         if i != k {

@@ -27,8 +27,8 @@ pub fn grow<P: Part>(
     requires whole { p ≤ length universe.now }
     requires fits { offs * p ≤ length off.now }
     requires room { n * p ≤ length solution.old }
-    requires apart { touches (cube_at p at (map set solution.old)) (cubes p offs (map set off.now)) ≡ false }
-    ensures sets { map set solution.new ≡ put_at p at (grown (take p (map set universe.now)) (cubes p offs (map set off.now)) (cube_at p at (map set solution.old)) (others at (cubes p n (map set solution.old)))) (map set solution.old) }
+    requires apart { touches (cube_at p at (map P.set solution.old)) (cubes p offs (map P.set off.now)) ≡ false }
+    ensures sets { map P.set solution.new ≡ put_at p at (grown (take p (map P.set universe.now)) (cubes p offs (map P.set off.now)) (cube_at p at (map P.set solution.old)) (others at (cubes p n (map P.set solution.old)))) (map P.set solution.old) }
     ensures before { take (at * p) solution.new ≡ take (at * p) solution.old }
     ensures behind { drop (at * p + p) solution.new ≡ drop (at * p + p) solution.old }
 {

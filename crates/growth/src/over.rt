@@ -13,8 +13,8 @@ pub(crate) fn blocked_words<P: Part>(p: usize, off: &[P], offs: usize, f: &[P]) 
     requires few { p ≤ 16 }
     requires size { length f.now ≡ p }
     requires fits { offs * p ≤ length off.now }
-    requires apart { touches (map set f.now) (cubes p offs (map set off.now)) ≡ false }
-    ensures { (k : ℕ) → k < p → slice_index result k ≡ blocked k (map set f.now) (cubes p offs (map set off.now)) }
+    requires apart { touches (map P.set f.now) (cubes p offs (map P.set off.now)) ≡ false }
+    ensures { (k : ℕ) → k < p → slice_index result k ≡ blocked k (map P.set f.now) (cubes p offs (map P.set off.now)) }
 {
     let mut words = [0u64; 16];
     for j in 0..offs {
@@ -38,8 +38,8 @@ pub fn over_expanded<P: Part>(
     requires size { length f.now ≡ p }
     requires whole { p ≤ length universe.now }
     requires fits { offs * p ≤ length off.now }
-    requires apart { touches (map set f.now) (cubes p offs (map set off.now)) ≡ false }
-    ensures { take p result ≡ over (take p (map set universe.now)) (map set f.now) (cubes p offs (map set off.now)) }
+    requires apart { touches (map P.set f.now) (cubes p offs (map P.set off.now)) ≡ false }
+    ensures { take p result ≡ over (take p (map P.set universe.now)) (map P.set f.now) (cubes p offs (map P.set off.now)) }
 {
     let blocked = blocked_words(p, off, offs, f);
     let mut words = [0u64; 16];

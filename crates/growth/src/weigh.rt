@@ -12,7 +12,7 @@ use parts::Part;
 /// Whether each part of the cube lies within its word.
 pub(crate) fn within_words<P: Part>(cube: &[P], words: [u64; 16]) -> bool
     requires { length cube.now ≤ 16 }
-    ensures { result ≡ covers (take (length cube.now) words) (map set cube.now) }
+    ensures { result ≡ covers (take (length cube.now) words) (map P.set cube.now) }
 {
     for i in 0..cube.len() {
         let x = cube[i];
@@ -28,7 +28,7 @@ pub(crate) fn add_weights<P: Part>(weights: [usize; 16], cube: &[P], f: &[P]) ->
     requires few { length f.now ≤ 16 }
     requires size { length cube.now ≡ length f.now }
     requires room { (k : ℕ) → k < length f.now → slice_index weights k < 18446744073709551615 }
-    ensures { (k : ℕ) → k < length f.now → slice_index result k ≡ slice_index weights k + (if nat_eq (minus (slice_index (map set cube.now) k) (slice_index (map set f.now) k)) 0 then 1 else 0) }
+    ensures { (k : ℕ) → k < length f.now → slice_index result k ≡ slice_index weights k + (if nat_eq (minus (slice_index (map P.set cube.now) k) (slice_index (map P.set f.now) k)) 0 then 1 else 0) }
 {
     let mut sums = weights;
     for k in 0..f.len() {
@@ -56,7 +56,7 @@ pub(crate) fn weigh<P: Part>(
     requires fits { to * p ≤ length solution.now }
     requires within { at * p + p ≤ length solution.now }
     requires room { (k : ℕ) → k < p → slice_index weights k ≤ from }
-    ensures { (k : ℕ) → k < p → slice_index result k ≡ slice_index weights k + part_weight (take p over) (cube_at p at (map set solution.now)) (cubes p (to - from) (drop (from * p) (map set solution.now))) k }
+    ensures { (k : ℕ) → k < p → slice_index result k ≡ slice_index weights k + part_weight (take p over) (cube_at p at (map P.set solution.now)) (cubes p (to - from) (drop (from * p) (map P.set solution.now))) k }
 {
     let f = cube_at(solution, at, p);
     let mut sums = weights;
@@ -81,7 +81,7 @@ pub fn part_weights<P: Part>(
     requires few { p ≤ 16 }
     requires place { at < n }
     requires fits { n * p ≤ length solution.now }
-    ensures { (k : ℕ) → k < p → slice_index result k ≡ part_weight (take p over) (cube_at p at (map set solution.now)) (others at (cubes p n (map set solution.now))) k }
+    ensures { (k : ℕ) → k < p → slice_index result k ≡ part_weight (take p over) (cube_at p at (map P.set solution.now)) (others at (cubes p n (map P.set solution.now))) k }
 {
     let before = weigh(p, 0, at, at, over, solution, [0; 16]);
     weigh(p, at + 1, n, at, over, solution, before)

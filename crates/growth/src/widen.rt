@@ -12,7 +12,7 @@ pub(crate) fn blocked_values<P: Part>(p: usize, k: usize, off: &[P], offs: usize
     requires part { k < p }
     requires size { length f.now ≡ p }
     requires fits { offs * p ≤ length off.now }
-    ensures { set result ≡ blocked k (map set f.now) (cubes p offs (map set off.now)) }
+    ensures { P.set result ≡ blocked k (map P.set f.now) (cubes p offs (map P.set off.now)) }
 {
     let mut values = P::make(0);
     for j in 0..offs {
@@ -38,7 +38,7 @@ pub fn widen<P: Part>(
     requires whole { p ≤ length universe.now }
     requires fits { offs * p ≤ length off.now }
     requires room { at * p + p ≤ length solution.old }
-    ensures sets { map set solution.new ≡ put_at p at (widened k (slice_index (take p (map set universe.now)) k) (cube_at p at (map set solution.old)) (cubes p offs (map set off.now))) (map set solution.old) }
+    ensures sets { map P.set solution.new ≡ put_at p at (widened k (slice_index (take p (map P.set universe.now)) k) (cube_at p at (map P.set solution.old)) (cubes p offs (map P.set off.now))) (map P.set solution.old) }
     ensures before { take (at * p) solution.new ≡ take (at * p) solution.old }
     ensures behind { drop (at * p + p) solution.new ≡ drop (at * p + p) solution.old }
 {

@@ -53,7 +53,7 @@ impl Order for Light {
 pub struct Reverse<O>(pub O);
 
 impl<O: Order> Order for Reverse<O> {
-    ghost before = { λ o. reversed (O.Order.before o.0) };
+    ghost before = { λ o. reversed (O.before o.0) };
 
     ghost ordered = { Prim.search rules };
 
@@ -70,7 +70,7 @@ pub enum Either<A, B> {
 }
 
 impl<A: Order, B: Order> Order for Either<A, B> {
-    ghost before = { λ o. either_rule A.Order.before B.Order.before o };
+    ghost before = { λ o. either_rule A.before B.before o };
 
     ghost ordered = { Prim.search rules };
 
@@ -92,7 +92,7 @@ pub enum Direction {
 impl Direction {
     /// Whether the first cube comes before the second under the order taken so.
     pub fn comes_before<O: Order>(self, order: &O, w: usize, p: usize, v: usize, q: usize) -> bool
-        ensures { result ≡ directed self (O.Order.before order.now) w p v q }
+        ensures { result ≡ directed self (O.before order.now) w p v q }
     {
         match self {
             Direction::Along => order.comes_before(w, p, v, q),

@@ -33,8 +33,8 @@ fn first_sought<O: Order>(
     n: usize,
 ) -> Option<usize>
     requires { n ≤ length cards.now }
-    ensures value { result ≡ first_of (sought_by sought) (directed along (O.Order.before order.now)) cards.now n }
-    ensures first { IsFirstOf (sought_by sought) (directed along (O.Order.before order.now)) cards.now n result }
+    ensures value { result ≡ first_of (sought_by sought) (directed along (O.before order.now)) cards.now n }
+    ensures first { IsFirstOf (sought_by sought) (directed along (O.before order.now)) cards.now n result }
 {
     let mut found = None;
     for i in 0..n {
@@ -64,8 +64,8 @@ pub fn first_waiting<O: Order>(
     n: usize,
 ) -> Option<usize>
     requires { n ≤ length cards.now }
-    ensures value { result ≡ first_of waits (directed along (O.Order.before order.now)) cards.now n }
-    ensures first { IsFirstOf waits (directed along (O.Order.before order.now)) cards.now n result }
+    ensures value { result ≡ first_of waits (directed along (O.before order.now)) cards.now n }
+    ensures first { IsFirstOf waits (directed along (O.before order.now)) cards.now n result }
 {
     first_sought(order, along, Sought::Waiting, cards, n)
 }
@@ -78,8 +78,8 @@ pub fn first_untried<O: Order>(
     n: usize,
 ) -> Option<usize>
     requires { n ≤ length cards.now }
-    ensures value { result ≡ first_of untried (directed along (O.Order.before order.now)) cards.now n }
-    ensures first { IsFirstOf untried (directed along (O.Order.before order.now)) cards.now n result }
+    ensures value { result ≡ first_of untried (directed along (O.before order.now)) cards.now n }
+    ensures first { IsFirstOf untried (directed along (O.before order.now)) cards.now n result }
 {
     first_sought(order, along, Sought::Untried, cards, n)
 }

@@ -40,11 +40,11 @@ pub fn open<P: Part>(
     work: &mut [P],
     numbers: &mut [usize],
 ) -> Result<Open, (Table, Fault)>
-    ensures leaves { leaving (opened_answer result) (map set off.new) (map set solution.new) cards.new (map set work.new) numbers.new ≡ opening (filling t) (map set universe.now) (map set table.now) rows.now (map set off.old) (map set solution.old) cards.old (map set work.old) numbers.old }
+    ensures leaves { leaving (opened_answer result) (map P.set off.new) (map P.set solution.new) cards.new (map P.set work.new) numbers.new ≡ opening (filling t) (map P.set universe.now) (map P.set table.now) rows.now (map P.set off.old) (map P.set solution.old) cards.old (map P.set work.old) numbers.old }
     ensures off_stays { drop (off_written (opened_answer result)) off.new ≡ drop (off_written (opened_answer result)) off.old }
     ensures solution_stays { drop (solution_written (opened_answer result)) solution.new ≡ drop (solution_written (opened_answer result)) solution.old }
     ensures work_stays { drop (work_written (opened_answer result) (length work.old) (length numbers.old)) work.new ≡ drop (work_written (opened_answer result) (length work.old) (length numbers.old)) work.old }
-    ensures exact { OpensExactly P.Part.most (opened_answer result) (map set universe.now) (map set table.now) rows.now (map set off.new) (map set solution.new) }
+    ensures exact { OpensExactly P.most (opened_answer result) (map P.set universe.now) (map P.set table.now) rows.now (map P.set off.new) (map P.set solution.new) }
 {
     let p = t.p;
     let n = t.rows;

@@ -34,7 +34,7 @@ fn repeated<T: Copy>(heap: Global, x: T, n: usize) -> Result<Vec<T>, AllocError>
 /// Areas of the bench's lengths, for `p` parts.
 pub(crate) fn fresh_areas<P: Part>(heap: Global, p: usize) -> Result<Areas<P>, AllocError>
     requires { p ≤ 16 }
-    ensures { IfOk result (λ a. memory P.Part.set a ≡ fresh p) }
+    ensures { IfOk result (λ a. memory P.set a ≡ fresh p) }
 {
     let none = P::make(0);
     let blank = Card::blank();
@@ -90,7 +90,7 @@ pub(crate) fn begin_table<P: Part>(
 ) -> Result<Draft, Fault>
     requires few { p ≤ 16 }
     requires small { Small sizes.now }
-    ensures { draft result (memory P.Part.set areas.new) ≡ beginning P.Part.most sizes.now p (memory P.Part.set areas.old) }
+    ensures { draft result (memory P.set areas.new) ≡ beginning P.most sizes.now p (memory P.set areas.old) }
 {
     let table = begin(p, sizes, &mut areas.universe)?;
     let row = in_hand(sizes);
@@ -108,7 +108,7 @@ pub(crate) fn add_row<P: Part>(
     kind: Kind,
     areas: &mut Areas<P>,
 ) -> Result<(Stage, Said), Fault>
-    ensures { step P.Part.most result (memory P.Part.set areas.new) ≡ adding P.Part.most (drafted d) kind (memory P.Part.set areas.old) }
+    ensures { step P.most result (memory P.set areas.new) ≡ adding P.most (drafted d) kind (memory P.set areas.old) }
 {
     let Draft {
         table,
@@ -143,7 +143,7 @@ pub(crate) fn add_row<P: Part>(
 
 /// Opens the table.
 pub(crate) fn open_table<P: Part>(t: Table, areas: &mut Areas<P>) -> Result<(Stage, Said), Fault>
-    ensures { step P.Part.most result (memory P.Part.set areas.new) ≡ opening_table (session.filling t) (memory P.Part.set areas.old) }
+    ensures { step P.most result (memory P.set areas.new) ≡ opening_table (session.filling t) (memory P.set areas.old) }
 {
     match open(
         t,

@@ -15,7 +15,7 @@ use table::card::Kind;
 
 // A command on a table that is being filled.
 fn fill<P: Part>(d: Draft, command: Command, areas: &mut Areas<P>) -> Result<(Stage, Said), Fault>
-    ensures { step P.Part.most result (memory P.Part.set areas.new) ≡ at_filling P.Part.most (drafted d) (memory P.Part.set areas.old) command }
+    ensures { step P.most result (memory P.set areas.new) ≡ at_filling P.most (drafted d) (memory P.set areas.old) command }
 {
     match command {
         Command::Kind(_) | Command::Size(_) => {
@@ -63,7 +63,7 @@ fn obey<P: Part>(
     command: Command,
     areas: &mut Areas<P>,
 ) -> Result<(Stage, Said), Fault>
-    ensures { step P.Part.most result (memory P.Part.set areas.new) ≡ obeyed (state P.Part.most stage (memory P.Part.set areas.old)) command }
+    ensures { step P.most result (memory P.set areas.new) ≡ obeyed (state P.most stage (memory P.set areas.old)) command }
 {
     match stage {
         Stage::Filling(d) => fill(d, command, areas),
@@ -83,7 +83,7 @@ fn run<P: Part>(
     areas: &mut Areas<P>,
 ) -> Result<String, AllocError>
     requires { length bytes.now ≤ end }
-    ensures { IfOk result (λ s. string_bytes s ≡ lines_from end (state P.Part.most stage (memory P.Part.set areas.old)) bytes.now) }
+    ensures { IfOk result (λ s. string_bytes s ≡ lines_from end (state P.most stage (memory P.set areas.old)) bytes.now) }
 {
     let mut out = String::new(heap);
     let mut stage = stage;
@@ -131,7 +131,7 @@ pub(crate) fn fill_table<P: Part>(
     requires few { p ≤ 16 }
     requires small { Small sizes.now }
     requires within { length bytes.now ≤ end }
-    ensures { IfOk result (λ s. string_bytes s ≡ lines_begun end P.Part.most (beginning P.Part.most sizes.now p (fresh p)) bytes.now) }
+    ensures { IfOk result (λ s. string_bytes s ≡ lines_begun end P.most (beginning P.most sizes.now p (fresh p)) bytes.now) }
 {
     let mut areas = fresh_areas::<P>(heap, p)?;
     match begin_table(p, sizes, &mut areas) {

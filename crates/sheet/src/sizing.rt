@@ -16,7 +16,7 @@ use std::alloc::{AllocError, Global};
 fn declare<P: Part>(sizes: &mut [usize; 16], p: usize, size: u8) -> Result<Next, Fault>
     requires few { p ≤ 16 }
     requires small { Small sizes.old }
-    ensures step { sized P.Part.most p (Command.Size size) result sizes.new ≡ part_declared P.Part.most sizes.old p size }
+    ensures step { sized P.most p (Command.Size size) result sizes.new ≡ part_declared P.most sizes.old p size }
     ensures few { OnOk result (p < 16) }
     ensures small { Small sizes.new }
 {
@@ -47,7 +47,7 @@ fn declare<P: Part>(sizes: &mut [usize; 16], p: usize, size: u8) -> Result<Next,
 fn size<P: Part>(sizes: &mut [usize; 16], p: usize, command: Command) -> Result<Next, Fault>
     requires few { p ≤ 16 }
     requires small { Small sizes.old }
-    ensures step { sized P.Part.most p command result sizes.new ≡ at_sizing P.Part.most sizes.old p command }
+    ensures step { sized P.most p command result sizes.new ≡ at_sizing P.most sizes.old p command }
     ensures few { result ≡ Ok Next.Part → p < 16 }
     ensures small { Small sizes.new }
 {
@@ -71,7 +71,7 @@ pub(crate) fn size_parts<P: Part>(
     end: usize,
 ) -> Result<String, AllocError>
     requires { length bytes.now ≤ end }
-    ensures { IfOk result (λ s. string_bytes s ≡ lines_from end (sizing P.Part.most (replicate 16 0) 0) bytes.now) }
+    ensures { IfOk result (λ s. string_bytes s ≡ lines_from end (sizing P.most (replicate 16 0) 0) bytes.now) }
 {
     let mut sizes = [0; 16];
     let mut p = 0;

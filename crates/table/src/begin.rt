@@ -18,7 +18,7 @@ pub fn check_area(area: usize, has: usize, needed: usize) -> Result<(), Cause>
 
 /// Whether the number of parts is 1 to 16, and the size of each of them 1 to the kind's most.
 pub fn check_shape<P: Part>(p: usize, sizes: &[usize; 16]) -> Result<(), Cause>
-    ensures { result ≡ shape_verdict P.Part.most p sizes.now }
+    ensures { result ≡ shape_verdict P.most p sizes.now }
 {
     if p < 1 || p > 16 {
         return Err(Cause::Shape {
@@ -41,17 +41,17 @@ pub fn check_shape<P: Part>(p: usize, sizes: &[usize; 16]) -> Result<(), Cause>
 
 // All values below a size.
 fn whole<P: Part>(size: usize) -> P
-    requires { (1 ≤ size) × (size ≤ P.Part.most) }
-    ensures { set result ≡ whole_of size }
+    requires { (1 ≤ size) × (size ≤ P.most) }
+    ensures { P.set result ≡ whole_of size }
 {
     P::make(u64::MAX >> (64 - size))
 }
 
 // Writes the universe of sizes that were checked.
 fn write_universe<P: Part>(p: usize, sizes: &[usize; 16], universe: &mut [P])
-    requires shape { shape_verdict P.Part.most p sizes.now ≡ Ok tt }
+    requires shape { shape_verdict P.most p sizes.now ≡ Ok tt }
     requires room { p ≤ length universe.old }
-    ensures sets { map set universe.new ≡ overlay (universe_of p sizes.now) (map set universe.old) }
+    ensures sets { map P.set universe.new ≡ overlay (universe_of p sizes.now) (map P.set universe.old) }
     ensures stays { drop p universe.new ≡ drop p universe.old }
 {
     for k in 0..p {
@@ -65,8 +65,8 @@ pub fn begin_universe<P: Part>(
     sizes: &[usize; 16],
     universe: &mut [P],
 ) -> Result<(), Cause>
-    ensures answer { result ≡ begin_verdict P.Part.most p sizes.now (length universe.old) }
-    ensures sets { map set universe.new ≡ (if is_ok result then overlay (universe_of p sizes.now) (map set universe.old) else map set universe.old) }
+    ensures answer { result ≡ begin_verdict P.most p sizes.now (length universe.old) }
+    ensures sets { map P.set universe.new ≡ (if is_ok result then overlay (universe_of p sizes.now) (map P.set universe.old) else map P.set universe.old) }
     ensures stays { drop (if is_ok result then p else 0) universe.new ≡ drop (if is_ok result then p else 0) universe.old }
 {
     check_shape::<P>(p, sizes)?;

@@ -38,11 +38,11 @@ fn off_within<P: Part>(
     requires space { most * p ≤ length off.old }
     requires fits { (1 + (p - 1) * rows) * p ≤ length work.old }
     requires room { 1 + (p - 1) * rows ≤ length numbers.old }
-    ensures count { result.count ≡ min most (length (off_list p rows (map set universe.now) (map set table.now))) }
-    ensures whole { result.whole ≡ nat_le (length (off_list p rows (map set universe.now) (map set table.now))) most }
-    ensures off { map set off.new ≡ overlay (flat (take most (off_list p rows (map set universe.now) (map set table.now)))) (map set off.old) }
+    ensures count { result.count ≡ min most (length (off_list p rows (map P.set universe.now) (map P.set table.now))) }
+    ensures whole { result.whole ≡ nat_le (length (off_list p rows (map P.set universe.now) (map P.set table.now))) most }
+    ensures off { map P.set off.new ≡ overlay (flat (take most (off_list p rows (map P.set universe.now) (map P.set table.now)))) (map P.set off.old) }
     ensures off_stays { drop (result.count * p) off.new ≡ drop (result.count * p) off.old }
-    ensures work { map set work.new ≡ replicate (length work.old) 0 }
+    ensures work { map P.set work.new ≡ replicate (length work.old) 0 }
     ensures numbers { numbers.new ≡ replicate (length numbers.old) 0 }
 {
     copy_cube(work, 0, p, cube_at(universe, 0, p));
@@ -66,11 +66,11 @@ pub fn off_list<P: Part>(
     requires full { p ≤ length universe.now }
     requires fits { rows * p ≤ length table.now }
     requires room { 1 + (p - 1) * rows ≤ area_length p (length work.old) (length numbers.old) }
-    ensures count { result.count ≡ min (off_most p (length off.old)) (length (off_list p rows (map set universe.now) (map set table.now))) }
-    ensures whole { result.whole ≡ nat_le (length (off_list p rows (map set universe.now) (map set table.now))) (off_most p (length off.old)) }
-    ensures off { map set off.new ≡ overlay (flat (take (off_most p (length off.old)) (off_list p rows (map set universe.now) (map set table.now)))) (map set off.old) }
+    ensures count { result.count ≡ min (off_most p (length off.old)) (length (off_list p rows (map P.set universe.now) (map P.set table.now))) }
+    ensures whole { result.whole ≡ nat_le (length (off_list p rows (map P.set universe.now) (map P.set table.now))) (off_most p (length off.old)) }
+    ensures off { map P.set off.new ≡ overlay (flat (take (off_most p (length off.old)) (off_list p rows (map P.set universe.now) (map P.set table.now)))) (map P.set off.old) }
     ensures off_stays { drop (result.count * p) off.new ≡ drop (result.count * p) off.old }
-    ensures work { map set work.new ≡ overlay (replicate (area_length p (length work.old) (length numbers.old) * p) 0) (map set work.old) }
+    ensures work { map P.set work.new ≡ overlay (replicate (area_length p (length work.old) (length numbers.old) * p) 0) (map P.set work.old) }
     ensures work_stays { drop (area_length p (length work.old) (length numbers.old) * p) work.new ≡ drop (area_length p (length work.old) (length numbers.old) * p) work.old }
     ensures numbers { numbers.new ≡ overlay (replicate (area_length p (length work.old) (length numbers.old)) 0) numbers.old }
 {

@@ -46,7 +46,7 @@ pub fn area_length(p: usize, parts: usize, beside: usize) -> usize
 
 // Whether each part of the row that the words make has a value.
 fn check_empty<P: Part>(words: &[u64]) -> Result<(), Cause>
-    ensures { result ≡ empty_verdict 0 (made_row P.Part.most words.now) }
+    ensures { result ≡ empty_verdict 0 (made_row P.most words.now) }
 {
     for part in 0..words.len() {
         if P::make(words[part]).is_empty() {
@@ -58,8 +58,8 @@ fn check_empty<P: Part>(words: &[u64]) -> Result<(), Cause>
 
 // The lowest value of a set, which has one: its values are gathered into a word, one by one.
 fn lowest<P: Part>(values: P) -> usize
-    ensures value { result ≡ count_trailing_zeros 64 (set values) }
-    ensures least { some (set values) ≡ true → Lowest (set values) result }
+    ensures value { result ≡ count_trailing_zeros 64 (P.set values) }
+    ensures least { some (P.set values) ≡ true → Lowest (P.set values) result }
 {
     let mut word: u64 = 0;
     for v in 0..P::most_values() {
@@ -72,7 +72,7 @@ fn lowest<P: Part>(values: P) -> usize
 
 // Whether the row that the words make has no value that the universe lacks.
 fn check_outside<P: Part>(words: &[u64], universe: &[P]) -> Result<(), Cause>
-    ensures { result ≡ outside_verdict 0 (made_row P.Part.most words.now) (map set universe.now) }
+    ensures { result ≡ outside_verdict 0 (made_row P.most words.now) (map P.set universe.now) }
 {
     let n = words.len().min(universe.len());
     for part in 0..n {
@@ -89,7 +89,7 @@ fn check_outside<P: Part>(words: &[u64], universe: &[P]) -> Result<(), Cause>
 
 // Whether a cube has the parts of the row that the words make.
 fn same_as_row<P: Part>(cube: &[P], words: &[u64]) -> bool
-    ensures { result ≡ same (map set cube.now) (made_row P.Part.most words.now) }
+    ensures { result ≡ same (map P.set cube.now) (made_row P.most words.now) }
 {
     if cube.len() != words.len() {
         return false;
@@ -114,7 +114,7 @@ fn check_repeat<P: Part>(
 ) -> Result<(), Cause>
     requires fits { rows * p ≤ length table.now }
     requires beside { rows ≤ length cards.now }
-    ensures { result ≡ repeat_verdict kind (made_row P.Part.most words.now) 0 (rows_of p rows (map set table.now) cards.now) }
+    ensures { result ≡ repeat_verdict kind (made_row P.most words.now) 0 (rows_of p rows (map P.set table.now) cards.now) }
 {
     for i in 0..rows {
         if (cards[i].kind == 0) == kind.is_on() && same_as_row(cube_at(table, i, p), words) {
@@ -150,7 +150,7 @@ fn check_row<P: Part>(
     requires some { 1 ≤ p }
     requires fits { rows * p ≤ length table.now }
     requires beside { rows ≤ length cards.now }
-    ensures { result ≡ row_verdict p rows kind (made_row P.Part.most words.now) (map set universe.now) (map set table.now) cards.now }
+    ensures { result ≡ row_verdict p rows kind (made_row P.most words.now) (map P.set universe.now) (map P.set table.now) cards.now }
 {
     check_empty::<P>(words)?;
     check_outside(words, universe)?;
@@ -169,7 +169,7 @@ fn check_add<P: Part>(
     cards: &[Card],
 ) -> Result<(), Cause>
     requires some { 1 ≤ p }
-    ensures { result ≡ add_verdict p rows kind (made_row P.Part.most words.now) (map set universe.now) (map set table.now) cards.now }
+    ensures { result ≡ add_verdict p rows kind (made_row P.most words.now) (map P.set universe.now) (map P.set table.now) cards.now }
 {
     check_area(1, universe.len(), p)?;
     check_area(2, area_length(p, table.len(), cards.len()), rows)?;
@@ -179,7 +179,7 @@ fn check_add<P: Part>(
 // Writes the parts of a row.
 fn write_parts<P: Part>(from: usize, words: &[u64], table: &mut [P])
     requires { from + length words.now ≤ length table.old }
-    ensures sets { map set table.new ≡ paste (map set table.old) from (made_row P.Part.most words.now) (length words.now) }
+    ensures sets { map P.set table.new ≡ paste (map P.set table.old) from (made_row P.most words.now) (length words.now) }
     ensures before { take from table.new ≡ take from table.old }
     ensures behind { drop (from + length words.now) table.new ≡ drop (from + length words.now) table.old }
 {
@@ -200,8 +200,8 @@ pub fn add_row<P: Part>(
 ) -> Result<(), Cause>
     requires some { 1 ≤ p }
     requires size { length words.now ≡ p }
-    ensures answer { result ≡ add_verdict p rows kind (made_row P.Part.most words.now) (map set universe.now) (map set table.old) cards.old }
-    ensures sets { map set table.new ≡ (if is_ok result then put_at p rows (made_row P.Part.most words.now) (map set table.old) else map set table.old) }
+    ensures answer { result ≡ add_verdict p rows kind (made_row P.most words.now) (map P.set universe.now) (map P.set table.old) cards.old }
+    ensures sets { map P.set table.new ≡ (if is_ok result then put_at p rows (made_row P.most words.now) (map P.set table.old) else map P.set table.old) }
     ensures before { take (rows * p) table.new ≡ take (rows * p) table.old }
     ensures behind { drop (if is_ok result then rows * p + p else 0) table.new ≡ drop (if is_ok result then rows * p + p else 0) table.old }
     ensures cards { cards.new ≡ (if is_ok result then edited cards.old rows (row_card kind rows) else cards.old) }

@@ -27,7 +27,7 @@ pub fn take_out<P: Part>(p: usize, n: usize, i: usize, solution: &mut [P], cards
     requires place { i < n }
     requires fits { n * p ≤ length solution.old }
     requires beside { n ≤ length cards.old }
-    ensures items { items_of p (n - 1) (map set solution.new) cards.new ≡ take i (items_of p n (map set solution.old) cards.old) ++ drop (suc i) (items_of p n (map set solution.old) cards.old) }
+    ensures items { items_of p (n - 1) (map P.set solution.new) cards.new ≡ take i (items_of p n (map P.set solution.old) cards.old) ++ drop (suc i) (items_of p n (map P.set solution.old) cards.old) }
     ensures parts { drop (n * p) solution.new ≡ drop (n * p) solution.old }
     ensures cards { drop n cards.new ≡ drop n cards.old }
 {
@@ -40,7 +40,7 @@ pub fn take_out<P: Part>(p: usize, n: usize, i: usize, solution: &mut [P], cards
 fn stays<P: Part>(p: usize, i: usize, at: usize, lead: usize, solution: &[P]) -> bool
     requires here { i * p + p ≤ length solution.now }
     requires there { lead * p + p ≤ length solution.now }
-    ensures { result ≡ stays_at (cube_at p lead (map set solution.now)) at i (cube_at p i (map set solution.now)) }
+    ensures { result ≡ stays_at (cube_at p lead (map P.set solution.now)) at i (cube_at p i (map P.set solution.now)) }
 {
     i == at || !covers(cube_at(solution, lead, p), cube_at(solution, i, p))
 }
@@ -57,7 +57,7 @@ fn close_up<P: Part>(p: usize, n: usize, at: usize, solution: &mut [P], cards: &
     requires place { at < n }
     requires fits { n * p ≤ length solution.old }
     requires beside { n ≤ length cards.old }
-    ensures items { items_of p result (map set solution.new) cards.new ≡ spared_but (cube_at p at (map set solution.old)) at (items_of p n (map set solution.old) cards.old) }
+    ensures items { items_of p result (map P.set solution.new) cards.new ≡ spared_but (cube_at p at (map P.set solution.old)) at (items_of p n (map P.set solution.old) cards.old) }
     ensures most { result ≤ n }
     ensures parts { drop (n * p) solution.new ≡ drop (n * p) solution.old }
     ensures cards { drop n cards.new ≡ drop n cards.old }
@@ -85,7 +85,7 @@ pub fn remove_covered<P: Part>(
     requires place { at < n }
     requires fits { n * p ≤ length solution.old }
     requires beside { n ≤ length cards.old }
-    ensures items { items_of p result (map set solution.new) cards.new ≡ only_at at (items_of p n (map set solution.old) cards.old) }
+    ensures items { items_of p result (map P.set solution.new) cards.new ≡ only_at at (items_of p n (map P.set solution.old) cards.old) }
     ensures most { result ≤ n }
     ensures parts { drop (n * p) solution.new ≡ drop (n * p) solution.old }
     ensures cards { drop n cards.new ≡ drop n cards.old }

@@ -22,7 +22,7 @@ pub fn settle<P: Part>(p: usize, n: usize, count: usize, solution: &mut [P], car
     requires left { n ≤ count }
     requires fits { count * p ≤ length solution.old }
     requires beside { count ≤ length cards.old }
-    ensures cubes { map set solution.new ≡ overlay (flat (cubes_in p n (map set solution.old)) ++ replicate ((count - n) * p) 0) (map set solution.old) }
+    ensures cubes { map P.set solution.new ≡ overlay (flat (cubes_in p n (map P.set solution.old)) ++ replicate ((count - n) * p) 0) (map P.set solution.old) }
     ensures cards { cards.new ≡ overlay (replicate count blank) cards.old }
     ensures behind { drop (count * p) solution.new ≡ drop (count * p) solution.old }
 {

@@ -14,8 +14,8 @@ pub fn start_cards<P: Part>(p: usize, n: usize, solution: &[P], cards: &mut [Car
     requires most { n ≤ 512 }
     requires fits { n * p ≤ length solution.now }
     requires beside { n ≤ length cards.old }
-    ensures items { items_of p n (map set solution.now) cards.new ≡ started (cubes_in p n (map set solution.now)) }
-    ensures cards { cards.new ≡ overlay (cards_of (started (cubes_in p n (map set solution.now)))) cards.old }
+    ensures items { items_of p n (map P.set solution.now) cards.new ≡ started (cubes_in p n (map P.set solution.now)) }
+    ensures cards { cards.new ≡ overlay (cards_of (started (cubes_in p n (map P.set solution.now)))) cards.old }
 {
     for i in 0..n {
         cards[i] = Card {

@@ -9,7 +9,7 @@ use parts::Part;
 /// How many values two cubes share, counted over the parts.
 pub fn shared_values<P: Part>(a: &[P], b: &[P]) -> usize
     requires { length a.now ≤ 16 }
-    ensures value { result ≡ shared (map set a.now) (map set b.now) }
+    ensures value { result ≡ shared (map P.set a.now) (map P.set b.now) }
     ensures most { result ≤ 64 * length a.now }
 {
     let n = a.len().min(b.len());
@@ -28,7 +28,7 @@ pub fn weigh<P: Part>(p: usize, n: usize, i: usize, solution: &[P]) -> usize
     requires most { n ≤ 512 }
     requires place { i < n }
     requires fits { n * p ≤ length solution.now }
-    ensures value { result ≡ weighed (cube_at p i (map set solution.now)) (cubes_in p n (map set solution.now)) }
+    ensures value { result ≡ weighed (cube_at p i (map P.set solution.now)) (cubes_in p n (map P.set solution.now)) }
     ensures most { result ≤ 1024 * n }
 {
     let mut sum: usize = 0;

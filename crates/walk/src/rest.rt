@@ -30,7 +30,7 @@ pub struct Written {
 /// What the rows from `i` on do to the piece `c`.
 pub(crate) fn look_ahead<P: Part>(c: &[P], list: &[P], n: usize, p: usize, i: usize) -> Look
     requires { n * p ≤ length list.now }
-    ensures { result ≡ look_of (map set c.now) i (drop i (cubes p n (map set list.now))) }
+    ensures { result ≡ look_of (map P.set c.now) i (drop i (cubes p n (map P.set list.now))) }
 {
     let mut first = Look::Free;
     for j in i..n {
@@ -63,9 +63,9 @@ pub fn rest_of<P: Part>(
     requires fits { (1 + (p - 1) * n) * p ≤ length work.old }
     requires room { 1 + (p - 1) * n ≤ length numbers.old }
     requires space { most * p ≤ length out.old }
-    ensures count { result.count ≡ min most (length (rest (cube_at p 0 (map set work.old)) (cubes p n (map set list.now)))) }
-    ensures whole { result.whole ≡ nat_le (length (rest (cube_at p 0 (map set work.old)) (cubes p n (map set list.now)))) most }
-    ensures written { map set out.new ≡ overlay (flat (take most (rest (cube_at p 0 (map set work.old)) (cubes p n (map set list.now))))) (map set out.old) }
+    ensures count { result.count ≡ min most (length (rest (cube_at p 0 (map P.set work.old)) (cubes p n (map P.set list.now)))) }
+    ensures whole { result.whole ≡ nat_le (length (rest (cube_at p 0 (map P.set work.old)) (cubes p n (map P.set list.now)))) most }
+    ensures written { map P.set out.new ≡ overlay (flat (take most (rest (cube_at p 0 (map P.set work.old)) (cubes p n (map P.set list.now))))) (map P.set out.old) }
     ensures stays { drop (result.count * p) out.new ≡ drop (result.count * p) out.old }
 {
     numbers[0] = 0;

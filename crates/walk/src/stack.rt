@@ -21,7 +21,7 @@ pub(crate) fn copy_next<P: Part>(area: &mut [P], t: usize, p: usize)
 pub(crate) fn make_piece<P: Part>(a: &mut [P], b: &[P], k: usize)
     requires b_len { length b.now ≡ length a.old }
     requires k_in_bounds { k < length a.old }
-    ensures { map set a.new ≡ piece k (map set a.old) (map set b.now) }
+    ensures { map P.set a.new ≡ piece k (map P.set a.old) (map P.set b.now) }
 {
     for j in 0..k {
         a[j] = a[j].common(b[j]);
@@ -43,7 +43,7 @@ pub(crate) fn put_piece<P: Part>(
     requires room { t < length numbers.old }
     requires size { length b.now ≡ p }
     requires part { k < p }
-    ensures cubes { map set work.new ≡ put_at p t (piece k (cube_at p t (map set work.old)) (map set b.now)) (map set work.old) }
+    ensures cubes { map P.set work.new ≡ put_at p t (piece k (cube_at p t (map P.set work.old)) (map P.set b.now)) (map P.set work.old) }
     ensures numbers { numbers.new ≡ edited numbers.old t next }
 {
     make_piece(&mut work[t * p..t * p + p], b, k);
@@ -64,8 +64,8 @@ pub(crate) fn push_piece<P: Part>(
     requires room { t < length numbers.old }
     requires size { length b.now ≡ p }
     requires part { k < p }
-    ensures stack { stack_of p result (map set work.new) numbers.new ≡ numbered next (piece_at k (cube_at p t (map set work.old)) (map set b.now)) ++ stack_of p t (map set work.old) numbers.old }
-    ensures kept { cube_at p result (map set work.new) ≡ cube_at p t (map set work.old) }
+    ensures stack { stack_of p result (map P.set work.new) numbers.new ≡ numbered next (piece_at k (cube_at p t (map P.set work.old)) (map P.set b.now)) ++ stack_of p t (map P.set work.old) numbers.old }
+    ensures kept { cube_at p result (map P.set work.new) ≡ cube_at p t (map P.set work.old) }
     ensures most { result ≤ t + 1 }
 {
     if work[t * p + k].outside(b[k]).is_empty() {
@@ -89,7 +89,7 @@ pub(crate) fn push_first<P: Part>(
     requires fits { t * p + p ≤ length work.old }
     requires room { t < length numbers.old }
     requires size { length b.now ≡ p }
-    ensures { stack_of p result (map set work.new) numbers.new ≡ numbered next (piece_at 0 (cube_at p t (map set work.old)) (map set b.now)) ++ stack_of p t (map set work.old) numbers.old }
+    ensures { stack_of p result (map P.set work.new) numbers.new ≡ numbered next (piece_at 0 (cube_at p t (map P.set work.old)) (map P.set b.now)) ++ stack_of p t (map P.set work.old) numbers.old }
 {
     if work[t * p].outside(b[0]).is_empty() {
         return t;
@@ -111,7 +111,7 @@ pub(crate) fn push_pieces<P: Part>(
     requires fits { d * p + p * p ≤ length work.old }
     requires room { d + p ≤ length numbers.old }
     requires size { length b.now ≡ p }
-    ensures { stack_of p result (map set work.new) numbers.new ≡ numbered next (pieces (cube_at p d (map set work.old)) (map set b.now)) ++ stack_of p d (map set work.old) numbers.old }
+    ensures { stack_of p result (map P.set work.new) numbers.new ≡ numbered next (pieces (cube_at p d (map P.set work.old)) (map P.set b.now)) ++ stack_of p d (map P.set work.old) numbers.old }
 {
     let mut t = d;
     for k in (1..p).rev() {

@@ -12,8 +12,8 @@ returns-in-80 c = taken 80 _ refl c.args.bytes.now (search rules) (search rules)
 pub returns-in-86 : goal.returns-in-86
 returns-in-86 c =
     let bytes = c.args.bytes.now in
-    let word : c.from-be-bytes-word.result ≡ big_endian (from 8 2 bytes) = omega (arith, c.from-be-bytes-word.ensures) in
-    let same = byte_and_number 86 8 bytes (λ k. omega (arith, c.type-inv.bytes k)) in
+    let word : c.from_be_bytes-word.result ≡ big_endian (from 8 2 bytes) = omega (arith, c.from_be_bytes-word.ensures) in
+    let same = byte_and_number 86 8 bytes (λ k. omega (arith, c.type_inv.bytes k)) in
     simp word (taken 86 _ refl bytes (search rules) (search rules) same)
 
 pub returns-in-70 : goal.returns-in-70

@@ -16,18 +16,18 @@ returns-then-n-lt10 t c =
     let d = decimal_digit c.args.n (omega arith) in
     wrote_one c.args.at c.args.line.now _ (48 + c.args.n) (omega (arith, ap length d)) d
 
-pub write-decimal-end-requires : goal.write-decimal-end-requires
-write-decimal-end-requires t c = omega (arith, front_length c.args.n (omega arith) (omega arith))
+pub write_decimal-end-requires : goal.write_decimal-end-requires
+write_decimal-end-requires t c = omega (arith, front_length c.args.n (omega arith) (omega arith))
 
 pub bounds-line-end : goal.bounds-line-end
-bounds-line-end t c = omega (arith, c.write-decimal-end.ensures.place, front_length c.args.n (omega arith) (omega arith))
+bounds-line-end t c = omega (arith, c.write_decimal-end.ensures.place, front_length c.args.n (omega arith) (omega arith))
 
-pub overflow-add-result-2 : goal.overflow-add-result-2
-overflow-add-result-2 t c = omega (arith, c.write-decimal-end.ensures.place, front_length c.args.n (omega arith) (omega arith))
+pub overflow_add-result-2 : goal.overflow_add-result-2
+overflow_add-result-2 t c = omega (arith, c.write_decimal-end.ensures.place, front_length c.args.n (omega arith) (omega arith))
 
 pub returns : goal.returns
 returns t c =
     let n = c.args.n in
-    let room : c.write-decimal-end.result < length c.args.line.now = omega (arith, c.write-decimal-end.ensures.place, front_length n (omega arith) (omega arith)) in
-    wrote_same (wrote_push c.args.at (decimal (n / 10)) c.args.line.now c.write-decimal-end.new.line c.write-decimal-end.result c.write-decimal-end.ensures room (48 + n % 10))
+    let room : c.write_decimal-end.result < length c.args.line.now = omega (arith, c.write_decimal-end.ensures.place, front_length n (omega arith) (omega arith)) in
+    wrote_same (wrote_push c.args.at (decimal (n / 10)) c.args.line.now c.write_decimal-end.new.line c.write_decimal-end.result c.write_decimal-end.ensures room (48 + n % 10))
     (decimal_step n (omega arith) (omega arith)) refl refl

@@ -13,22 +13,22 @@ cut text xs last size e f =
     let n : length text ≡ size - 1 - 0 = omega (arith, f, length_push text 10) in
     ap (take (size - 1 - 0)) (e ∙ append_assoc text (10 ∷ []) (drop (length (text ++ 10 ∷ [])) xs)) ∙ take_at text _ (size - 1 - 0) n
 
-pub overflow-sub-size : goal.overflow-sub-size
-overflow-sub-size g c =
+pub overflow_sub-size : goal.overflow_sub-size
+overflow_sub-size g c =
     let s = g.P.Part.set in
-    omega (arith, c.write-cube-size.ensures.size, length_push (cube_text g.P.Part.most (map s c.args.universe.now) (map s c.args.cube.now)) 10)
+    omega (arith, c.write_cube-size.ensures.size, length_push (cube_text g.P.Part.most (map s c.args.universe.now) (map s c.args.cube.now)) 10)
 
-pub text-of-requires : goal.text-of-requires
-text-of-requires g c =
+pub text_of-requires : goal.text_of-requires
+text_of-requires g c =
     let s = g.P.Part.set in
     let U = map s c.args.universe.now in
     let C = map s c.args.cube.now in
     let t = cube_text g.P.Part.most U C in
-    subst IsUtf8 (sym (cut t _ c.write-cube-size.new.line c.write-cube-size.result c.write-cube-size.ensures.text c.write-cube-size.ensures.size))
+    subst IsUtf8 (sym (cut t _ c.write_cube-size.new.line c.write_cube-size.result c.write_cube-size.ensures.text c.write_cube-size.ensures.size))
     (IsUtf8-from_ascii t (text_ascii g.P.Part.most U C))
 
 pub returns : goal.returns
 returns g c =
     let s = g.P.Part.set in
     let t = cube_text g.P.Part.most (map s c.args.universe.now) (map s c.args.cube.now) in
-    IfOk-weaker c.text-of.result _ _ (λ r e. e ∙ cut t _ c.write-cube-size.new.line c.write-cube-size.result c.write-cube-size.ensures.text c.write-cube-size.ensures.size) c.text-of.ensures
+    IfOk-weaker c.text_of.result _ _ (λ r e. e ∙ cut t _ c.write_cube-size.new.line c.write_cube-size.result c.write_cube-size.ensures.text c.write_cube-size.ensures.size) c.text_of.ensures

@@ -8,9 +8,9 @@ ok_since (Ok x) P Q h k = refl
 ok_since (Err e) P Q h k = absurd (k e h)
 
 pub unwrap-text-requires : goal.unwrap-text-requires
-unwrap-text-requires c = ok_since c.from-utf8.result _ _ c.from-utf8.ensures.cases (λ e h. h.0 c.requires)
+unwrap-text-requires c = ok_since c.from_utf8.result _ _ c.from_utf8.ensures.cases (λ e h. h.0 c.requires)
 
 pub returns : goal.returns
 returns c =
-    let same = (MatchResult-at_ok _ _ _ c.unwrap-text.ensures c.from-utf8.ensures.cases).0 in
-    IfOk-weaker c.from-str.result _ _ (λ s e. e ∙ same) c.from-str.ensures.ok
+    let same = (MatchResult-at_ok _ _ _ c.unwrap-text.ensures c.from_utf8.ensures.cases).0 in
+    IfOk-weaker c.from_str.result _ _ (λ s e. e ∙ same) c.from_str.ensures.ok

@@ -4,15 +4,15 @@ use Rattle.listing.proofs.Placed.{wrote_push, wrote-more, wrote_same}
 use Rattle.listing.proofs.Texts.{front, front-more, front-all, length-front-le, length_gap_le}
 use Rattle.listing.proofs.write_cube.Goals as goal
 
-pub write-gap-start-requires : goal.write-gap-start-requires
-write-gap-start-requires g c =
+pub write_gap-start-requires : goal.write_gap-start-requires
+write_gap-start-requires g c =
     let short = length-front-le g.P.Part.set g.P.Part.most c.args.universe.now c.args.cube.now c.loop-i.i g.met.P.Part.range.1 (omega arith) in
     omega (arith, c.loop-i.invariant.place, short)
 
-pub write-part-end-requires : goal.write-part-end-requires
-write-part-end-requires g c =
+pub write_part-end-requires : goal.write_part-end-requires
+write_part-end-requires g c =
     let short = length-front-le g.P.Part.set g.P.Part.most c.args.universe.now c.args.cube.now c.loop-i.i g.met.P.Part.range.1 (omega arith) in
-    omega (arith, c.loop-i.invariant.place, c.write-gap-start.ensures.place, short, length_gap_le g.P.Part.most c.loop-i.i)
+    omega (arith, c.loop-i.invariant.place, c.write_gap-start.ensures.place, short, length_gap_le g.P.Part.most c.loop-i.i)
 
 pub loop-i-preserved : goal.loop-i-preserved
 loop-i-preserved g c =
@@ -25,10 +25,10 @@ loop-i-preserved g c =
     let C = c.args.cube.now in
     let xs = c.args.line.now in
     let short = length-front-le s most U C i g.met.P.Part.range.1 (omega arith) in
-    let led : Wrote 0 (front s most U C i ++ gap most i) xs c.write-gap-start.new.line c.write-gap-start.result = wrote-more 0 (front s most U C i) xs c.loop-i.line c.loop-i.end c.loop-i.invariant (omega (arith, c.loop-i.invariant.place, short)) (gap most i) c.write-gap-start.new.line c.write-gap-start.result c.write-gap-start.ensures in
-    let room : c.write-gap-start.result ≤ length xs = omega (arith, c.loop-i.invariant.place, c.write-gap-start.ensures.place, short, length_gap_le most i) in
+    let led : Wrote 0 (front s most U C i ++ gap most i) xs c.write_gap-start.new.line c.write_gap-start.result = wrote-more 0 (front s most U C i) xs c.loop-i.line c.loop-i.end c.loop-i.invariant (omega (arith, c.loop-i.invariant.place, short)) (gap most i) c.write_gap-start.new.line c.write_gap-start.result c.write_gap-start.ensures in
+    let room : c.write_gap-start.result ≤ length xs = omega (arith, c.loop-i.invariant.place, c.write_gap-start.ensures.place, short, length_gap_le most i) in
     wrote_same
-    (wrote-more 0 (front s most U C i ++ gap most i) xs c.write-gap-start.new.line c.write-gap-start.result led room (part_text most (s u) (s p)) c.write-part-end.new.line c.write-part-end.result c.write-part-end.ensures)
+    (wrote-more 0 (front s most U C i ++ gap most i) xs c.write_gap-start.new.line c.write_gap-start.result led room (part_text most (s u) (s p)) c.write_part-end.new.line c.write_part-end.result c.write_part-end.ensures)
     (front-more s most U C i u p (omega arith) (omega arith) c.index-universe-i.is c.index-cube-i.is) refl refl
 
 pub bounds-line-end : goal.bounds-line-end
@@ -36,8 +36,8 @@ bounds-line-end g c =
     let short = length-front-le g.P.Part.set g.P.Part.most c.args.universe.now c.args.cube.now c.loop-i.i g.met.P.Part.range.1 (omega arith) in
     omega (arith, c.loop-i.invariant.place, short)
 
-pub overflow-add-result : goal.overflow-add-result
-overflow-add-result g c =
+pub overflow_add-result : goal.overflow_add-result
+overflow_add-result g c =
     let short = length-front-le g.P.Part.set g.P.Part.most c.args.universe.now c.args.cube.now c.loop-i.i g.met.P.Part.range.1 (omega arith) in
     omega (arith, c.loop-i.invariant.place, short)
 

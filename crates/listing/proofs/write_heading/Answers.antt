@@ -17,21 +17,21 @@ whole n xs last end h k w =
     let digits : Wrote 0 (76 ∷ 32 ∷ decimal n) xs last end = wrote-more 0 (76 ∷ 32 ∷ []) xs (set (set xs 0 76) 1 32) 2 front (omega arith) (decimal n) last end w in
     wrote_push 0 (76 ∷ 32 ∷ decimal n) xs last end digits (omega (arith, w.place, few_digits n k)) 10
 
-pub write-decimal-end-requires : goal.write-decimal-end-requires
-write-decimal-end-requires c = simp length-set (omega (arith, few_digits c.args.count (omega arith)))
+pub write_decimal-end-requires : goal.write_decimal-end-requires
+write_decimal-end-requires c = simp length-set (omega (arith, few_digits c.args.count (omega arith)))
 
 pub bounds-line-end : goal.bounds-line-end
-bounds-line-end c = omega (arith, c.write-decimal-end.ensures.place, few_digits c.args.count (omega arith), length-set (set c.args.line.now 0 76) 1 32, length-set c.args.line.now 0 76)
+bounds-line-end c = omega (arith, c.write_decimal-end.ensures.place, few_digits c.args.count (omega arith), length-set (set c.args.line.now 0 76) 1 32, length-set c.args.line.now 0 76)
 
-pub overflow-add-result : goal.overflow-add-result
-overflow-add-result c = omega (arith, c.write-decimal-end.ensures.place, few_digits c.args.count (omega arith))
+pub overflow_add-result : goal.overflow_add-result
+overflow_add-result c = omega (arith, c.write_decimal-end.ensures.place, few_digits c.args.count (omega arith))
 
 pub returns : goal.returns
 returns c =
     let n = c.args.count in
-    let w = whole n c.args.line.now c.write-decimal-end.new.line c.write-decimal-end.result c.requires (omega arith) c.write-decimal-end.ensures in
+    let w = whole n c.args.line.now c.write_decimal-end.new.line c.write_decimal-end.result c.requires (omega arith) c.write_decimal-end.ensures in
     record {
       text = w.line;
       size = omega (arith, w.place);
-      bound = omega (arith, c.write-decimal-end.ensures.place, few_digits n (omega arith));
+      bound = omega (arith, c.write_decimal-end.ensures.place, few_digits n (omega arith));
     }

@@ -13,8 +13,8 @@ bounds-line-end g c =
     let s = g.P.Part.set in
     omega (arith, c.loop-v.invariant.place, g.met.P.Part.range, length_marks_le c.loop-v.v (s c.args.whole) (s c.args.part))
 
-pub overflow-add-end : goal.overflow-add-end
-overflow-add-end g c =
+pub overflow_add-end : goal.overflow_add-end
+overflow_add-end g c =
     let s = g.P.Part.set in
     omega (arith, c.loop-v.invariant.place, g.met.P.Part.range, length_marks_le c.loop-v.v (s c.args.whole) (s c.args.part))
 
@@ -27,7 +27,7 @@ loop-v-preserved g c =
     let room : c.loop-v.end < length c.args.line.now = omega (arith, inv.place, g.met.P.Part.range, length_marks_le v u s) in
     elim c.if-contains.branch [
       | then-contains w ↦
-          wrote_same (wrote_push c.args.at (marks v u s) c.args.line.now c.loop-v.line c.loop-v.end inv room w.value-mark.result)
-          (marks_in v u s w.value-mark.result w.contains-then-contains.result w.if-contains.ensures w.value-mark.ensures w.contains-then-contains.ensures) w.line-is w.end-is
+          wrote_same (wrote_push c.args.at (marks v u s) c.args.line.now c.loop-v.line c.loop-v.end inv room w.value_mark.result)
+          (marks_in v u s w.value_mark.result w.contains-then-contains.result w.if-contains.ensures w.value_mark.ensures w.contains-then-contains.ensures) w.line-is w.end-is
       | else-contains w ↦ wrote_same inv (marks_out v u s w.if-contains.ensures) w.line-is w.end-is
     ]

@@ -8,14 +8,14 @@ use Rattle.cubes.proofs.cube.meets.Goals as goal
 abbrev test : ℕ → ℕ → Bool
 test a b = some (bit_and a b)
 
-pub returns-then-is-empty : goal.returns-then-is-empty
-returns-then-is-empty g c =
+pub returns-then-is_empty : goal.returns-then-is_empty
+returns-then-is_empty g c =
     let s = g.P.Part.set in
     let x = c.index-a-i.result in
     let y = c.index-b-i.result in
     let ha : c.loop-i.i < length c.args.a.now = omega arith in
     let hb : c.loop-i.i < length c.args.b.now = omega arith in
-    let t : test (s x) (s y) ≡ false = ap not (empty_is _ (bit_and (s x) (s y)) _ _ c.common.ensures.value c.is-empty.ensures.value c.if-is-empty.true) in
+    let t : test (s x) (s y) ≡ false = ap not (empty_is _ (bit_and (s x) (s y)) _ _ c.common.ensures.value c.is_empty.ensures.value c.if-is_empty.true) in
     pair-false meets test (λ _ _ _ _. refl) s c.args.a.now c.args.b.now c.loop-i.i x y ha hb c.index-a-i.is c.index-b-i.is t (meets (map s c.args.a.now) (map s c.args.b.now)) c.loop-i.invariant
 
 pub loop-i-preserved : goal.loop-i-preserved
@@ -25,7 +25,7 @@ loop-i-preserved g c =
     let y = c.index-b-i.result in
     let ha : c.loop-i.i < length c.args.a.now = omega arith in
     let hb : c.loop-i.i < length c.args.b.now = omega arith in
-    let t : test (s x) (s y) ≡ true = ap not (empty_is _ (bit_and (s x) (s y)) _ _ c.common.ensures.value c.is-empty.ensures.value c.if-is-empty.false) in
+    let t : test (s x) (s y) ≡ true = ap not (empty_is _ (bit_and (s x) (s y)) _ _ c.common.ensures.value c.is_empty.ensures.value c.if-is_empty.false) in
     pair-true meets test (λ _ _ _ _. refl) s c.args.a.now c.args.b.now c.loop-i.i x y ha hb c.index-a-i.is c.index-b-i.is t (meets (map s c.args.a.now) (map s c.args.b.now)) c.loop-i.invariant
 
 pub returns : goal.returns

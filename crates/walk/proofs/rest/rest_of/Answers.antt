@@ -7,14 +7,14 @@ use Rattle.walk.proofs.rest.rest_of.Goals as goal
 pub loop-depth-init : goal.loop-depth-init
 loop-depth-init g c = starts g.P.Part.set c.args.p c.args.n c.args.most c.args.list.now c.args.work.now c.args.out.now c.args.numbers.now (omega arith) c.requires.fits c.requires.space c.requires.listed
 
-pub cube-at-requires : goal.cube-at-requires
-cube-at-requires g c = top-fits c.loop-depth.invariant c.loop-depth-test.true
+pub cube_at-requires : goal.cube_at-requires
+cube_at-requires g c = top-fits c.loop-depth.invariant c.loop-depth-test.true
 
 pub bounds-numbers-d : goal.bounds-numbers-d
 bounds-numbers-d g c = omega (arith, depth-most c.loop-depth.invariant c.loop-depth-test.true, length-set c.args.numbers.now 0 0)
 
-pub offset-bounds-numbers-d : goal.offset-bounds-numbers-d
-offset-bounds-numbers-d g c = let deep = depth-most c.loop-depth.invariant c.loop-depth-test.true in search rules
+pub offset_bounds-numbers-d : goal.offset_bounds-numbers-d
+offset_bounds-numbers-d g c = let deep = depth-most c.loop-depth.invariant c.loop-depth-test.true in search rules
 
 -- ---- some row covers the piece
 
@@ -22,56 +22,56 @@ pub loop-depth-smaller-in-Gone : goal.loop-depth-smaller-in-Gone
 loop-depth-smaller-in-Gone g c = out-weight c.loop-depth.invariant c.loop-depth-test.true
 
 pub loop-depth-preserved-in-Gone : goal.loop-depth-preserved-in-Gone
-loop-depth-preserved-in-Gone g c = gone-walked c.loop-depth.invariant c.loop-depth-test.true c.cube-at.result.now c.look-ahead.result c.cube-at.ensures c.look-ahead.ensures c.in-Gone.is
+loop-depth-preserved-in-Gone g c = gone-walked c.loop-depth.invariant c.loop-depth-test.true c.cube_at.result.now c.look_ahead.result c.cube_at.ensures c.look_ahead.ensures c.in-Gone.is
 
 -- ---- a row cuts the piece
 
-pub cube-at-requires-in-Cut : goal.cube-at-requires-in-Cut
-cube-at-requires-in-Cut g c = cut-listed c.loop-depth.invariant c.loop-depth-test.true c.cube-at.result.now c.look-ahead.result c.cube-at.ensures c.look-ahead.ensures c.in-Cut.j c.in-Cut.is
+pub cube_at-requires-in-Cut : goal.cube_at-requires-in-Cut
+cube_at-requires-in-Cut g c = cut-listed c.loop-depth.invariant c.loop-depth-test.true c.cube_at.result.now c.look_ahead.result c.cube_at.ensures c.look_ahead.ensures c.in-Cut.j c.in-Cut.is
 
-pub overflow-add-j : goal.overflow-add-j
-overflow-add-j g c = omega (arith, cut_below c.loop-depth.invariant c.loop-depth-test.true c.cube-at.result.now c.look-ahead.result c.cube-at.ensures c.look-ahead.ensures c.in-Cut.j c.in-Cut.is)
+pub overflow_add-j : goal.overflow_add-j
+overflow_add-j g c = omega (arith, cut_below c.loop-depth.invariant c.loop-depth-test.true c.cube_at.result.now c.look_ahead.result c.cube_at.ensures c.look_ahead.ensures c.in-Cut.j c.in-Cut.is)
 
-pub push-pieces-depth-requires : goal.push-pieces-depth-requires
-push-pieces-depth-requires g c =
+pub push_pieces-depth-requires : goal.push_pieces-depth-requires
+push_pieces-depth-requires g c =
     record {
       some = c.requires.some;
-      fits = cut_fits c.loop-depth.invariant c.loop-depth-test.true c.cube-at.result.now c.look-ahead.result c.cube-at.ensures c.look-ahead.ensures c.in-Cut.j c.in-Cut.is c.requires.some;
-      room = omega (arith, cut-room c.loop-depth.invariant c.loop-depth-test.true c.cube-at.result.now c.look-ahead.result c.cube-at.ensures c.look-ahead.ensures c.in-Cut.j c.in-Cut.is c.requires.some, length-set c.args.numbers.now 0 0);
-      size = ap length c.cube-at-in-Cut.ensures ∙ length-cube_at c.args.p c.in-Cut.j c.args.list.now (cut-listed c.loop-depth.invariant c.loop-depth-test.true c.cube-at.result.now c.look-ahead.result c.cube-at.ensures c.look-ahead.ensures c.in-Cut.j c.in-Cut.is);
+      fits = cut_fits c.loop-depth.invariant c.loop-depth-test.true c.cube_at.result.now c.look_ahead.result c.cube_at.ensures c.look_ahead.ensures c.in-Cut.j c.in-Cut.is c.requires.some;
+      room = omega (arith, cut-room c.loop-depth.invariant c.loop-depth-test.true c.cube_at.result.now c.look_ahead.result c.cube_at.ensures c.look_ahead.ensures c.in-Cut.j c.in-Cut.is c.requires.some, length-set c.args.numbers.now 0 0);
+      size = ap length c.cube_at-in-Cut.ensures ∙ length-cube_at c.args.p c.in-Cut.j c.args.list.now (cut-listed c.loop-depth.invariant c.loop-depth-test.true c.cube_at.result.now c.look_ahead.result c.cube_at.ensures c.look_ahead.ensures c.in-Cut.j c.in-Cut.is);
     }
 
 pub loop-depth-smaller-in-Cut : goal.loop-depth-smaller-in-Cut
-loop-depth-smaller-in-Cut g c = cut-weight c.loop-depth.invariant c.loop-depth-test.true c.cube-at.result.now c.look-ahead.result c.cube-at.ensures c.look-ahead.ensures c.in-Cut.j c.in-Cut.is c.cube-at-in-Cut.result.now c.push-pieces-depth.new.work c.push-pieces-depth.new.numbers c.push-pieces-depth.result c.cube-at-in-Cut.ensures c.push-pieces-depth.ensures
+loop-depth-smaller-in-Cut g c = cut-weight c.loop-depth.invariant c.loop-depth-test.true c.cube_at.result.now c.look_ahead.result c.cube_at.ensures c.look_ahead.ensures c.in-Cut.j c.in-Cut.is c.cube_at-in-Cut.result.now c.push_pieces-depth.new.work c.push_pieces-depth.new.numbers c.push_pieces-depth.result c.cube_at-in-Cut.ensures c.push_pieces-depth.ensures
 
 pub loop-depth-preserved-in-Cut : goal.loop-depth-preserved-in-Cut
-loop-depth-preserved-in-Cut g c = cut-walked c.loop-depth.invariant c.loop-depth-test.true c.cube-at.result.now c.look-ahead.result c.cube-at.ensures c.look-ahead.ensures c.in-Cut.j c.in-Cut.is c.cube-at-in-Cut.result.now c.push-pieces-depth.new.work c.push-pieces-depth.new.numbers c.push-pieces-depth.result c.cube-at-in-Cut.ensures c.push-pieces-depth.ensures c.push-pieces-depth.auto.work
+loop-depth-preserved-in-Cut g c = cut-walked c.loop-depth.invariant c.loop-depth-test.true c.cube_at.result.now c.look_ahead.result c.cube_at.ensures c.look_ahead.ensures c.in-Cut.j c.in-Cut.is c.cube_at-in-Cut.result.now c.push_pieces-depth.new.work c.push_pieces-depth.new.numbers c.push_pieces-depth.result c.cube_at-in-Cut.ensures c.push_pieces-depth.ensures c.push_pieces-depth.auto.work
 
 -- ---- no row meets the piece
 
 pub returns-then-count-most : goal.returns-then-count-most
 returns-then-count-most g c =
     record {
-      count = full-count c.loop-depth.invariant c.loop-depth-test.true c.cube-at.result.now c.look-ahead.result c.cube-at.ensures c.look-ahead.ensures c.in-Free.is c.if-count-most.true;
-      whole = full-whole c.loop-depth.invariant c.loop-depth-test.true c.cube-at.result.now c.look-ahead.result c.cube-at.ensures c.look-ahead.ensures c.in-Free.is c.if-count-most.true;
-      written = full-written c.loop-depth.invariant c.loop-depth-test.true c.cube-at.result.now c.look-ahead.result c.cube-at.ensures c.look-ahead.ensures c.in-Free.is c.if-count-most.true;
+      count = full-count c.loop-depth.invariant c.loop-depth-test.true c.cube_at.result.now c.look_ahead.result c.cube_at.ensures c.look_ahead.ensures c.in-Free.is c.if-count-most.true;
+      whole = full-whole c.loop-depth.invariant c.loop-depth-test.true c.cube_at.result.now c.look_ahead.result c.cube_at.ensures c.look_ahead.ensures c.in-Free.is c.if-count-most.true;
+      written = full-written c.loop-depth.invariant c.loop-depth-test.true c.cube_at.result.now c.look_ahead.result c.cube_at.ensures c.look_ahead.ensures c.in-Free.is c.if-count-most.true;
       stays = c.loop-depth.invariant.stays;
     }
 
-pub cube-at-requires-in-Free : goal.cube-at-requires-in-Free
-cube-at-requires-in-Free g c = top-fits c.loop-depth.invariant c.loop-depth-test.true
+pub cube_at-requires-in-Free : goal.cube_at-requires-in-Free
+cube_at-requires-in-Free g c = top-fits c.loop-depth.invariant c.loop-depth-test.true
 
-pub copy-cube-requires : goal.copy-cube-requires
-copy-cube-requires g c = (
-  ap length c.cube-at-in-Free.ensures ∙ length-cube_at c.args.p (c.loop-depth.depth - 1) c.loop-depth.work (top-fits c.loop-depth.invariant c.loop-depth-test.true),
-  free-space c.loop-depth.invariant c.loop-depth-test.true c.cube-at.result.now c.look-ahead.result c.cube-at.ensures c.look-ahead.ensures c.if-count-most.false,
+pub copy_cube-requires : goal.copy_cube-requires
+copy_cube-requires g c = (
+  ap length c.cube_at-in-Free.ensures ∙ length-cube_at c.args.p (c.loop-depth.depth - 1) c.loop-depth.work (top-fits c.loop-depth.invariant c.loop-depth-test.true),
+  free-space c.loop-depth.invariant c.loop-depth-test.true c.cube_at.result.now c.look_ahead.result c.cube_at.ensures c.look_ahead.ensures c.if-count-most.false,
 )
 
 pub loop-depth-smaller : goal.loop-depth-smaller
 loop-depth-smaller g c = out-weight c.loop-depth.invariant c.loop-depth-test.true
 
 pub loop-depth-preserved : goal.loop-depth-preserved
-loop-depth-preserved g c = free-walked c.loop-depth.invariant c.loop-depth-test.true c.cube-at.result.now c.look-ahead.result c.cube-at.ensures c.look-ahead.ensures c.in-Free.is c.if-count-most.false c.cube-at-in-Free.result.now c.copy-cube.new.dst c.cube-at-in-Free.ensures c.copy-cube.ensures
+loop-depth-preserved g c = free-walked c.loop-depth.invariant c.loop-depth-test.true c.cube_at.result.now c.look_ahead.result c.cube_at.ensures c.look_ahead.ensures c.in-Free.is c.if-count-most.false c.cube_at-in-Free.result.now c.copy_cube.new.dst c.cube_at-in-Free.ensures c.copy_cube.ensures
 
 -- ---- no piece is left
 

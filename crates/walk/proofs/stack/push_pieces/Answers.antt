@@ -18,8 +18,8 @@ loop-k-init g c =
     let none = from-none p (cube_at p d w) (map s c.args.b.now) (omega arith) in
     (sym (ap (λ x. numbered c.args.next x ++ stack_of p d w c.args.numbers.now) none), refl {a = cube_at p d w}, omega arith, omega arith)
 
-pub push-piece-t-requires : goal.push-piece-t-requires
-push-piece-t-requires g c =
+pub push_piece-t-requires : goal.push_piece-t-requires
+push_piece-t-requires g c =
     let inv = c.loop-k.invariant in
     record {
       fits = omega (arith, room_two c.loop-k.t c.args.d c.args.p c.args.p (omega arith));
@@ -39,16 +39,16 @@ loop-k-preserved g c =
     let size = length-cube_at p d w fits in
     let len : length (map s c.args.b.now) ≡ p = rw length-map c.requires.size in
     let es = stack_of p c.loop-k.t (map s c.loop-k.work) c.loop-k.numbers in
-    let fs = stack_of p c.push-piece-t.result (map s c.push-piece-t.new.work) c.push-piece-t.new.numbers in
-    let done = c.push-piece-t.ensures in (
+    let fs = stack_of p c.push_piece-t.result (map s c.push_piece-t.new.work) c.push_piece-t.new.numbers in
+    let done = c.push_piece-t.ensures in (
       more_pieces c.args.next (c.loop-k.k - 1) c.loop-k.k (cube_at p d w) (cube_at p c.loop-k.t (map s c.loop-k.work)) (map s c.args.b.now) es fs (stack_of p d w c.args.numbers.now) (omega arith) (omega arith) (omega arith) inv.1 done.stack inv.0,
       done.kept ∙ inv.1,
       omega arith,
       omega arith,
     )
 
-pub push-first-requires : goal.push-first-requires
-push-first-requires g c =
+pub push_first-requires : goal.push_first-requires
+push_first-requires g c =
     let inv = c.loop-k.invariant in
     record {
       some = c.requires.some;
@@ -68,5 +68,5 @@ returns g c =
     let size = length-cube_at p d w fits in
     let len : length (map s c.args.b.now) ≡ p = rw length-map c.requires.size in
     let es = stack_of p c.loop-k.t (map s c.loop-k.work) c.loop-k.numbers in
-    let fs = stack_of p c.push-first.result (map s c.push-first.new.work) c.push-first.new.numbers in
-    more_pieces c.args.next 0 c.loop-k.k (cube_at p d w) (cube_at p c.loop-k.t (map s c.loop-k.work)) (map s c.args.b.now) es fs (stack_of p d w c.args.numbers.now) (omega arith) (omega arith) (omega arith) inv.1 c.push-first.ensures inv.0
+    let fs = stack_of p c.push_first.result (map s c.push_first.new.work) c.push_first.new.numbers in
+    more_pieces c.args.next 0 c.loop-k.k (cube_at p d w) (cube_at p c.loop-k.t (map s c.loop-k.work)) (map s c.args.b.now) es fs (stack_of p d w c.args.numbers.now) (omega arith) (omega arith) (omega arith) inv.1 c.push_first.ensures inv.0

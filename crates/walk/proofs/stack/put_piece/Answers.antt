@@ -9,6 +9,6 @@ returns g c =
     let p = c.args.p in
     let t = c.args.t in
     record {
-      cubes = put_part s p t (t * p + p - t * p) c.args.work.now c.make-piece.new.a (λ a. piece c.args.k a (map s c.args.b.now)) (omega arith) c.make-piece.ensures;
+      cubes = put_part s p t (t * p + p - t * p) c.args.work.now c.make_piece.new.a (λ a. piece c.args.k a (map s c.args.b.now)) (omega arith) c.make_piece.ensures;
       numbers = refl {a = set c.args.numbers.now t c.args.next};
     }
