@@ -62,10 +62,11 @@ pub cube_at-requires-in-Free : goal.cube_at-requires-in-Free
 cube_at-requires-in-Free g c = top-fits c.loop-depth.invariant c.loop-depth-test.true
 
 pub copy_cube-requires : goal.copy_cube-requires
-copy_cube-requires g c = (
-  ap length c.cube_at-in-Free.ensures ∙ length-cube_at c.args.p (c.loop-depth.depth - 1) c.loop-depth.work (top-fits c.loop-depth.invariant c.loop-depth-test.true),
-  free-space c.loop-depth.invariant c.loop-depth-test.true c.cube_at.result.now c.look_ahead.result c.cube_at.ensures c.look_ahead.ensures c.if-count-most.false,
-)
+copy_cube-requires g c =
+    record {
+      src_len = ap length c.cube_at-in-Free.ensures ∙ length-cube_at c.args.p (c.loop-depth.depth - 1) c.loop-depth.work (top-fits c.loop-depth.invariant c.loop-depth-test.true);
+      p_in_bounds = free-space c.loop-depth.invariant c.loop-depth-test.true c.cube_at.result.now c.look_ahead.result c.cube_at.ensures c.look_ahead.ensures c.if-count-most.false;
+    }
 
 pub loop-depth-smaller : goal.loop-depth-smaller
 loop-depth-smaller g c = out-weight c.loop-depth.invariant c.loop-depth-test.true

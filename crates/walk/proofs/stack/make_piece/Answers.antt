@@ -7,11 +7,11 @@ loop-j-init g c = refl
 
 pub loop-j-preserved : goal.loop-j-preserved
 loop-j-preserved g c =
-    mixed-more g.P.Part.set c.loop-j.a c.args.a.now c.args.b.now c.loop-j.j _ _ _ c.loop-j.auto.a c.requires.0 (omega arith) c.index-a-j.is c.index-b-j.is c.loop-j.invariant c.common.ensures.value
+    mixed-more g.P.Part.set c.loop-j.a c.args.a.now c.args.b.now c.loop-j.j _ _ _ c.loop-j.auto.a c.requires.b_len (omega arith) c.index-a-j.is c.index-b-j.is c.loop-j.invariant c.common.ensures.value
 
 pub returns : goal.returns
 returns g c =
     let s = g.P.Part.set in
     let e : c.loop-j.j ≡ c.args.k = omega arith in
     let inv = c.loop-j.invariant ∙ ap (λ j. mixed j (map s c.args.a.now) (map s c.args.b.now)) e in
-    mixed-all s c.loop-j.a c.args.a.now c.args.b.now c.args.k _ _ _ c.loop-j.auto.a c.requires.0 c.requires.1 c.index-a-k.is c.index-b-k.is inv c.outside.ensures.value
+    mixed-all s c.loop-j.a c.args.a.now c.args.b.now c.args.k _ _ _ c.loop-j.auto.a c.requires.b_len c.requires.k_in_bounds c.index-a-k.is c.index-b-k.is inv c.outside.ensures.value
