@@ -1,10 +1,10 @@
 -- The walk of Open: where it starts, and the part of the work area that it is lent.
-use Rattle.std.proofs.Common.{◌≡◌, ℕ, ◌+◌, ◌-◌, ◌*◌, ◌/◌, ◌≤◌, min, List, ◌++◌, map, length, take, drop, replicate, sym, refl, ap, ◌∙◌, mul-le-mul_right, add-mul, one-mul, le-div_iff_mul-le, arith}
+use Rattle.std.proofs.Common.{◌≡◌, ℕ, ◌+◌, ◌-◌, ◌*◌, ◌/◌, ◌≤◌, min, List, ◌++◌, map, length, take, drop, replicate, sym, ap, ◌∙◌, mul-le-mul_right, add-mul, one-mul, le-div_iff_mul-le, arith}
 use Rattle.std.proofs.lemmas.List.{length-map, length-replicate, map-append, drop-map, drop_at}
 use Rattle.cubes.specs.Areas.{cube_at, put_at, overlay}
 use Rattle.cubes.proofs.Areas.{map-put, map-cube_at, cubeAt-put, length-cube_at}
 use Rattle.table.specs.Cards.{area_length}
-use Rattle.table.proofs.Verdicts.{first_cube, fits_area}
+use Rattle.table.proofs.Verdicts.{first_cube}
 
 pub first_fits : (p m : ℕ) → p ≤ m → 0 * p + p ≤ m
 first_fits p m h = omega arith

@@ -1,8 +1,7 @@
 -- The ON rows, one row after another.
-use Rattle.std.proofs.Common.{◌≡◌, ℕ, zero, suc, ◌+◌, ◌-◌, ◌*◌, ◌<◌, ◌≤◌, Bool, true, false, cond, List, [], ◌∷◌, ◌++◌, map, length, get_or, take, drop, set, replicate, sym, refl, ap, ◌∙◌, ap₂, add-zero, mul-le-mul_right, add-mul, one-mul, add-one, arith}
-use Rattle.std.proofs.lemmas.List.{drop-drop, get_or-drop, length-append, length-replicate, take-append-drop, append_assoc, take_more_set, replicate_more, drop-set-lt, length-take, length-take-le, append-nil}
+use Rattle.std.proofs.Common.{◌≡◌, ℕ, zero, suc, ◌+◌, ◌-◌, ◌*◌, ◌<◌, ◌≤◌, Bool, true, false, cond, List, [], ◌∷◌, ◌++◌, length, get_or, take, drop, set, replicate, sym, refl, ap, ◌∙◌, ap₂, add-zero, mul-le-mul_right, arith}
+use Rattle.std.proofs.lemmas.List.{drop-drop, get_or-drop, length-replicate, take-append-drop, append_assoc, take_more_set, replicate_more, drop-set-lt, length-take-le, append-nil}
 use Rattle.std.proofs.lemmas.Slice.{take-put_mid, drop-put_mid}
-use Rattle.std.proofs.lemmas.Bool.{cond_both}
 use Rattle.cubes.specs.Areas.{cube_at, flat, overlay, put_at}
 use Rattle.cubes.proofs.Areas.{next_place}
 use Rattle.table.specs.declared.card.Card.{Card}

@@ -1,9 +1,7 @@
 -- What Open checks and makes.
-use Rattle.std.specs.Prelude.{ℕ, ◌+◌, ◌-◌, ◌*◌, ◌/◌, min, List, length, take}
+use Rattle.std.specs.Prelude.{ℕ, ◌+◌, ◌-◌, ◌*◌, ◌/◌, min, List, take}
 use Rattle.cubes.specs.Areas.{cubes}
 use Rattle.cubes.specs.Cubes.{Cover, rest}
-use Rattle.table.specs.declared.card.Card.{Card}
-use Rattle.table.specs.Cards.{area_length, on_count}
 use Rattle.table.specs.Filling.{Verdict, ◌then◌, area_verdict}
 
 -- the areas that Open uses, the lowest first, by their lengths: the universe in parts, the others in cubes

@@ -1,12 +1,12 @@
-use Rattle.std.proofs.Common.{◌≡◌, ◌≤◌, length, sym, ◌∙◌, arith}
+use Rattle.std.proofs.Common.{◌≤◌, length, sym, ◌∙◌, arith}
 use Rattle.table.proofs.Verdicts.{shape_sizes, sizes_refused, sizes_passed, sizes_end}
 use Rattle.table.proofs.begin.check_shape.Goals as goal
 
 pub returns-then-size-lt1 : goal.returns-then-size-lt1
 returns-then-size-lt1 g c =
     let l : c.args.p ≤ length c.args.sizes.now = omega arith in
-    let s = c.most-values-most.ensures in
-    let e = sizes_refused c.most-values-most.result c.args.p c.loop-k.k c.args.sizes.now c.loop-k-test.true l c.then-size-lt1.either in
+    let s = c.most_values-most.ensures in
+    let e = sizes_refused c.most_values-most.result c.args.p c.loop-k.k c.args.sizes.now c.loop-k-test.true l c.then-size-lt1.either in
     sym (shape_sizes g.P.Part.most c.args.p c.args.sizes.now (omega arith) (omega arith) ∙ sym c.loop-k.invariant ∙ rw s at e)
 
 pub loop-k-preserved : goal.loop-k-preserved

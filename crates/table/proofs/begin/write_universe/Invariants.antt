@@ -1,4 +1,4 @@
-use Rattle.std.proofs.Common.{◌≡◌, ◌++◌, map, take, drop}
+use Rattle.std.proofs.Common.{◌≡◌, ◌++◌, map, drop}
 use Rattle.table.specs.Filling.{universe_of}
 use Rattle.table.proofs.begin.write_universe.Given as goal
 

@@ -1,4 +1,4 @@
-use Rattle.std.proofs.Common.{◌≡◌, ℕ, ◌+◌, ◌-◌, ◌*◌, ◌≤◌, min, leb, ◌++◌, map, length, take, drop, replicate, sym, refl, ap, ◌∙◌, arith}
+use Rattle.std.proofs.Common.{◌≡◌, ◌+◌, ◌-◌, ◌*◌, min, leb, map, length, take, replicate, ap, ◌∙◌, arith}
 use Rattle.std.proofs.lemmas.List.{length-take-le}
 use Rattle.cubes.specs.Areas.{flat, overlay}
 use Rattle.table.specs.Cards.{area_length}
@@ -7,26 +7,26 @@ use Rattle.table.proofs.Verdicts.{fits_area}
 use Rattle.table.proofs.Offs.{most_fits, area_fits, cleared_part, cleared_numbers_lem, behind_part}
 use Rattle.table.proofs.off.off_list.Goals as goal
 
-pub overflow-mul-has : goal.overflow-mul-has
-overflow-mul-has g c =
-    let f = fits_area c.args.p (length c.args.work.now) (length c.args.numbers.now) c.area-length-has.result c.requires.some (omega (arith, c.area-length-has.ensures)) in
+pub overflow_mul-has : goal.overflow_mul-has
+overflow_mul-has g c =
+    let f = fits_area c.args.p (length c.args.work.now) (length c.args.numbers.now) c.area_length-has.result c.requires.some (omega (arith, c.area_length-has.ensures)) in
     omega arith
 
-pub slice-bounds-off-within-end : goal.slice-bounds-off-within-end
-slice-bounds-off-within-end g c =
-    let f = fits_area c.args.p (length c.args.work.now) (length c.args.numbers.now) c.area-length-has.result c.requires.some (omega (arith, c.area-length-has.ensures)) in
+pub slice_bounds-off_within-end : goal.slice_bounds-off_within-end
+slice_bounds-off_within-end g c =
+    let f = fits_area c.args.p (length c.args.work.now) (length c.args.numbers.now) c.area_length-has.result c.requires.some (omega (arith, c.area_length-has.ensures)) in
     f.0
 
-pub off-within-requires : goal.off-within-requires
-off-within-requires g c =
+pub off_within-requires : goal.off_within-requires
+off_within-requires g c =
     let p = c.args.p in
     let has = area_length p (length c.args.work.now) (length c.args.numbers.now) in
-    let h : c.area-length-has.result ≡ has = c.area-length-has.ensures in
+    let h : c.area_length-has.result ≡ has = c.area_length-has.ensures in
     let f = fits_area p (length c.args.work.now) (length c.args.numbers.now) has c.requires.some (omega arith) in
-    let z : c.area-length-has.result * p - 0 ≡ has * p = omega (arith, ap (λ n. n * p) h) in
-    let y : c.area-length-has.result - 0 ≡ has = omega arith in
-    let w : length (take (c.area-length-has.result * p - 0) c.args.work.now) ≡ has * p = ap (λ n. length (take n c.args.work.now)) z ∙ length-take-le (has * p) c.args.work.now f.0 in
-    let v : length (take (c.area-length-has.result - 0) c.args.numbers.now) ≡ has = ap (λ n. length (take n c.args.numbers.now)) y ∙ length-take-le has c.args.numbers.now f.1 in
+    let z : c.area_length-has.result * p - 0 ≡ has * p = omega (arith, ap (λ n. n * p) h) in
+    let y : c.area_length-has.result - 0 ≡ has = omega arith in
+    let w : length (take (c.area_length-has.result * p - 0) c.args.work.now) ≡ has * p = ap (λ n. length (take n c.args.work.now)) z ∙ length-take-le (has * p) c.args.work.now f.0 in
+    let v : length (take (c.area_length-has.result - 0) c.args.numbers.now) ≡ has = ap (λ n. length (take n c.args.numbers.now)) y ∙ length-take-le has c.args.numbers.now f.1 in
     record {
       some = c.requires.some;
       full = c.requires.full;
@@ -41,20 +41,20 @@ returns g c =
     let s = g.P.Part.set in
     let p = c.args.p in
     let has = area_length p (length c.args.work.now) (length c.args.numbers.now) in
-    let h : c.area-length-has.result ≡ has = c.area-length-has.ensures in
+    let h : c.area_length-has.result ≡ has = c.area_length-has.ensures in
     let f = fits_area p (length c.args.work.now) (length c.args.numbers.now) has c.requires.some (omega arith) in
     let L = off_list p c.args.rows (map s c.args.universe.now) (map s c.args.table.now) in
     let m = c.min-most.ensures in
-    let z : c.area-length-has.result * p - 0 ≡ has * p = omega (arith, ap (λ n. n * p) h) in
-    let y : c.area-length-has.result - 0 ≡ has = omega arith in
-    let w : length (take (c.area-length-has.result * p - 0) c.args.work.now) ≡ has * p = ap (λ n. length (take n c.args.work.now)) z ∙ length-take-le (has * p) c.args.work.now f.0 in
-    let v : length (take (c.area-length-has.result - 0) c.args.numbers.now) ≡ has = ap (λ n. length (take n c.args.numbers.now)) y ∙ length-take-le has c.args.numbers.now f.1 in
+    let z : c.area_length-has.result * p - 0 ≡ has * p = omega (arith, ap (λ n. n * p) h) in
+    let y : c.area_length-has.result - 0 ≡ has = omega arith in
+    let w : length (take (c.area_length-has.result * p - 0) c.args.work.now) ≡ has * p = ap (λ n. length (take n c.args.work.now)) z ∙ length-take-le (has * p) c.args.work.now f.0 in
+    let v : length (take (c.area_length-has.result - 0) c.args.numbers.now) ≡ has = ap (λ n. length (take n c.args.numbers.now)) y ∙ length-take-le has c.args.numbers.now f.1 in
     record {
-      count = c.off-within.ensures.count ∙ ap (λ k. min k (length L)) m;
-      whole = c.off-within.ensures.whole ∙ ap (λ k. leb (length L) k) m;
-      off = c.off-within.ensures.off ∙ ap (λ k. overlay (flat (take k L)) (map s c.args.off.now)) m;
-      off-stays = c.off-within.ensures.off-stays;
-      work = cleared_part s (c.area-length-has.result * p - 0) (has * p) c.args.work.now c.off-within.new.work z (c.off-within.ensures.work ∙ ap (λ n. replicate n 0) w);
-      work-stays = behind_part (c.area-length-has.result * p - 0) (has * p) c.args.work.now c.off-within.new.work z (c.off-within.auto.work ∙ w);
-      numbers = cleared_numbers_lem (c.area-length-has.result - 0) has c.args.numbers.now c.off-within.new.numbers y (c.off-within.ensures.numbers ∙ ap (λ n. replicate n 0) v);
+      count = c.off_within.ensures.count ∙ ap (λ k. min k (length L)) m;
+      whole = c.off_within.ensures.whole ∙ ap (λ k. leb (length L) k) m;
+      off = c.off_within.ensures.off ∙ ap (λ k. overlay (flat (take k L)) (map s c.args.off.now)) m;
+      off_stays = c.off_within.ensures.off_stays;
+      work = cleared_part s (c.area_length-has.result * p - 0) (has * p) c.args.work.now c.off_within.new.work z (c.off_within.ensures.work ∙ ap (λ n. replicate n 0) w);
+      work_stays = behind_part (c.area_length-has.result * p - 0) (has * p) c.args.work.now c.off_within.new.work z (c.off_within.auto.work ∙ w);
+      numbers = cleared_numbers_lem (c.area_length-has.result - 0) has c.args.numbers.now c.off_within.new.numbers y (c.off_within.ensures.numbers ∙ ap (λ n. replicate n 0) v);
     }

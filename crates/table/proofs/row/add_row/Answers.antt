@@ -1,19 +1,19 @@
-use Rattle.std.proofs.Common.{◌≡◌, ◌+◌, ◌*◌, ◌<◌, ◌≤◌, false, ◌++◌, map, length, take, drop, set, sym, refl, ap, ◌∙◌, arith}
+use Rattle.std.proofs.Common.{◌≡◌, ◌+◌, ◌*◌, false, ◌++◌, map, length, take, drop, set, sym, ap, ◌∙◌, arith}
 use Rattle.std.proofs.lemmas.List.{length-map, drop-drop}
 use Rattle.std.proofs.lemmas.List.Edits.{paste_all}
 use Rattle.table.specs.Filling.{made_row}
 use Rattle.table.proofs.Verdicts.{add_room}
 use Rattle.table.proofs.row.add_row.Goals as goal
 
-pub overflow-mul-rows : goal.overflow-mul-rows
-overflow-mul-rows g c =
-    let r = add_room c.args.p c.args.rows c.args.kind (made_row g.P.Part.most c.args.words.now) (map g.P.Part.set c.args.universe.now) (map g.P.Part.set c.args.table.now) c.args.cards.now c.requires.some (sym c.in-ok-check-add.ensures) in
+pub overflow_mul-rows : goal.overflow_mul-rows
+overflow_mul-rows g c =
+    let r = add_room c.args.p c.args.rows c.args.kind (made_row g.P.Part.most c.args.words.now) (map g.P.Part.set c.args.universe.now) (map g.P.Part.set c.args.table.now) c.args.cards.now c.requires.some (sym c.in_ok-check_add.ensures) in
     let n = length-map c.args.table.now g.P.Part.set in
     omega arith
 
-pub write-parts-requires : goal.write-parts-requires
-write-parts-requires g c =
-    let r = add_room c.args.p c.args.rows c.args.kind (made_row g.P.Part.most c.args.words.now) (map g.P.Part.set c.args.universe.now) (map g.P.Part.set c.args.table.now) c.args.cards.now c.requires.some (sym c.in-ok-check-add.ensures) in
+pub write_parts-requires : goal.write_parts-requires
+write_parts-requires g c =
+    let r = add_room c.args.p c.args.rows c.args.kind (made_row g.P.Part.most c.args.words.now) (map g.P.Part.set c.args.universe.now) (map g.P.Part.set c.args.table.now) c.args.cards.now c.requires.some (sym c.in_ok-check_add.ensures) in
     let n = length-map c.args.table.now g.P.Part.set in
     omega arith
 
@@ -27,10 +27,10 @@ returns g c =
     let n : length c.args.words.now ≡ length A = sym (length-map c.args.words.now _) in
     let e = c.requires.size in
     record {
-      answer = c.in-ok-check-add.ensures;
-      sets = c.write-parts.ensures.sets ∙ paste_all d at A (length c.args.words.now) n
+      answer = c.in_ok-check_add.ensures;
+      sets = c.write_parts.ensures.sets ∙ paste_all d at A (length c.args.words.now) n
           ∙ ap (λ k. take at d ++ (A ++ drop (at + k) d)) e ∙ ap (λ D. take at d ++ (A ++ D)) (sym (drop-drop p at d));
-      before = c.write-parts.ensures.before;
-      behind = rw e at c.write-parts.ensures.behind;
+      before = c.write_parts.ensures.before;
+      behind = rw e at c.write_parts.ensures.behind;
       cards = ap (λ k. set c.args.cards.now c.args.rows (record { kind = k; weight = 0; place = c.args.rows; taken = false; tried = false; out = false })) c.number.ensures;
     }

@@ -1,7 +1,6 @@
-use Rattle.std.proofs.Common.{◌≡◌, ◌%◌, ◌^◌, ◌<◌, true, false, sym, ap, ◌∙◌, mod-eq_of_lt, arith, pow_mono}
+use Rattle.std.proofs.Common.{◌≡◌, ◌%◌, ◌^◌, ◌<◌, sym, ap, ◌∙◌, mod-eq_of_lt, arith, pow_mono}
 use lib.Bits.{bit_or}
 use lib.Count.{count_trailing_zeros}
-use Rattle.parts.specs.Sets.{has}
 use Rattle.std.proofs.lemmas.Nat.{one_shl}
 use Rattle.table.proofs.Lowest.{lowest_is}
 use Rattle.table.proofs.Verdicts.{gather_more, gather_same}
