@@ -1,6 +1,6 @@
 -- The cubes of the rest are apart: how many of them hold a vertex.
 use Rattle.std.proofs.Common.{◌≡◌, ℕ, ◌+◌, cond, not, ◌&&◌, [], ◌∷◌, ◌++◌, map, length, sym, refl, arith}
-use Rattle.std.specs.List.{flat_map, AllByRecursion as All}
+use Rattle.std.specs.List.{flat_map, AllByRecursion}
 use Rattle.std.proofs.lemmas.Bool.Decides.{nat_tests}
 use Rattle.std.proofs.ByRecursion.{All-weaker}
 use Rattle.parts.specs.Sets.{has}
@@ -41,7 +41,7 @@ cut_apart : (A B : Cube) (v : Vertex) → length A ≡ length B → count (cut A
 cut_apart A B v e = grind (arith, pieces-apart A B v e, meets_since A B v)
 
 -- `holds` of each, and not of D
-count_joined : (f : Cube → Cover) (C D : Cover) (v : Vertex) → All (λ p. count (f p) v ≡ cond (holds p v && not (held D v)) 1 0) C
+count_joined : (f : Cube → Cover) (C D : Cover) (v : Vertex) → AllByRecursion (λ p. count (f p) v ≡ cond (holds p v && not (held D v)) 1 0) C
     → count (flat_map f C) v ≡ cond (held D v) 0 (count C v)
 count_joined f [] D v h = grind arith
 count_joined f (c ∷ C) D v h = rw count-++ (grind (arith, h.0, count_joined f C D v h.1))
@@ -49,6 +49,6 @@ count_joined f (c ∷ C) D v h = rw count-++ (grind (arith, h.0, count_joined f 
 pub rest_apart : (c : Cube) (C : Cover) (v : Vertex) → Wide (length c) C → count (rest c C) v ≡ cond (holds c v && not (held C v)) 1 0
 rest_apart c [] v w = grind arith
 rest_apart c (d ∷ D) v w =
-    let each : All (λ p. count (rest p D) v ≡ cond (holds p v && not (held D v)) 1 0) (cut c d) =
+    let each : AllByRecursion (λ p. count (rest p D) v ≡ cond (holds p v && not (held D v)) 1 0) (cut c d) =
     All-weaker (λ p. length p ≡ length c) _ (λ p e. rest_apart p D v (rw e w.1)) (cut c d) (cut_wide c d) in
     grind (arith, count_joined (λ p. rest p D) (cut c d) D v each, cut_apart c d v (sym w.0))

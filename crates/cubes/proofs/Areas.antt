@@ -1,7 +1,7 @@
 -- Areas of cubes: what a write to one cube leaves, and the cubes one after another.
 use Rattle.std.proofs.Common.{◌≡◌, ℕ, zero, suc, ◌+◌, ◌*◌, ◌<◌, ◌≤◌, List, [], ◌∷◌, ◌++◌, map, length, get_or, take, drop, sym, refl, ap, ◌∙◌, mul-le-mul_right, add-mul, one-mul, add-one, arith}
 use borrow.Rule.Slice.PartMut.{put_mid}
-use Rattle.std.specs.List.{AllByRecursion as All}
+use Rattle.std.specs.List.{AllByRecursion}
 use Rattle.std.proofs.lemmas.List.{append_assoc, map-append, take-map, drop-map, take_at, drop_at, drop-take, drop-drop, length-take, length-drop, length-append, take-append-drop, take-take}
 use Rattle.std.proofs.lemmas.Slice.{take-put_mid_below, drop-put_mid}
 use Rattle.cubes.specs.Areas.{cube_at, cubes, put_at, flat, overlay}
@@ -70,7 +70,7 @@ pub length-cubes : {X : Type 0} (p n : ℕ) (xs : List X) → length (cubes p n 
 length-cubes p zero xs = refl
 length-cubes p (suc n) xs = ap suc (length-cubes p n (drop p xs))
 
-pub wide_cubes : {X : Type 0} (p n : ℕ) (xs : List X) → n * p ≤ length xs → All (λ (c : List X). length c ≡ p) (cubes p n xs)
+pub wide_cubes : {X : Type 0} (p n : ℕ) (xs : List X) → n * p ≤ length xs → AllByRecursion (λ (c : List X). length c ≡ p) (cubes p n xs)
 wide_cubes p zero xs h = tt
 wide_cubes p (suc n) xs h =
     let e = suc_place n p in
@@ -108,12 +108,12 @@ cubes-put p n c xs h e =
 
 -- ---- cubes written one after another
 
-pub length-flat : {X : Type 0} (p : ℕ) (C : List (List X)) → All (λ (c : List X). length c ≡ p) C → length (flat C) ≡ length C * p
+pub length-flat : {X : Type 0} (p : ℕ) (C : List (List X)) → AllByRecursion (λ (c : List X). length c ≡ p) C → length (flat C) ≡ length C * p
 length-flat p [] w = omega arith
 length-flat p (c ∷ C) w = simp length-append (omega (arith, w.0, length-flat p C w.1, suc_place (length C) p))
 
 -- the cubes that were written are there
-pub cubes-flat : {X : Type 0} (p : ℕ) (C : List (List X)) (xs : List X) → All (λ (c : List X). length c ≡ p) C → cubes p (length C) (flat C ++ xs) ≡ C
+pub cubes-flat : {X : Type 0} (p : ℕ) (C : List (List X)) (xs : List X) → AllByRecursion (λ (c : List X). length c ≡ p) C → cubes p (length C) (flat C ++ xs) ≡ C
 cubes-flat p [] xs w = refl
 cubes-flat p (c ∷ C) xs w =
     let split = append_assoc c (flat C) xs in

@@ -1,7 +1,7 @@
 -- What the pieces of a cube hold, and what is left of it.
 use Rattle.std.proofs.Common.{◌≡◌, ℕ, suc, Bool, true, false, not, ◌&&◌, ◌||◌, [], ◌∷◌, ◌++◌, map, length, sym, refl, ap, subst, arith}
 use lib.Bits.{bit_and}
-use Rattle.std.specs.List.{flat_map, AllByRecursion as All}
+use Rattle.std.specs.List.{flat_map, AllByRecursion}
 use Rattle.std.proofs.lemmas.Bool.Decides.{nat_tests}
 use Rattle.std.proofs.lemmas.Bool.{cond_both}
 use Rattle.std.proofs.ByRecursion.{All-append, All-map, All-weaker}
@@ -72,13 +72,13 @@ cut_wide A B = cond_both (meets A B) (pieces A B) (A ∷ []) (Wide (length A)) (
 
 -- ---- what holds of each cube of f, for each cube of a cover, holds of all of them
 
-pub all_joined : (P : Cube → Type 0) (f : Cube → Cover) (C : Cover) → All (λ c. All P (f c)) C → All P (flat_map f C)
+pub all_joined : (P : Cube → Type 0) (f : Cube → Cover) (C : Cover) → AllByRecursion (λ c. AllByRecursion P (f c)) C → AllByRecursion P (flat_map f C)
 all_joined P f [] h = tt
 all_joined P f (c ∷ C) h = All-append P (f c) (flat_map f C) h.0 (all_joined P f C h.1)
 
 -- ---- the rest
 
-held_joined : (f : Cube → Cover) (C D : Cover) (v : Vertex) → All (λ p. held (f p) v ≡ (holds p v && not (held D v))) C
+held_joined : (f : Cube → Cover) (C D : Cover) (v : Vertex) → AllByRecursion (λ p. held (f p) v ≡ (holds p v && not (held D v))) C
     → held (flat_map f C) v ≡ (held C v && not (held D v))
 held_joined f [] D v h = refl
 held_joined f (c ∷ C) D v h = rw held-++ (grind (arith, h.0, held_joined f C D v h.1))
@@ -86,7 +86,7 @@ held_joined f (c ∷ C) D v h = rw held-++ (grind (arith, h.0, held_joined f C D
 pub rest_exact : (c : Cube) (C : Cover) (v : Vertex) → Wide (length c) C → held (rest c C) v ≡ (holds c v && not (held C v))
 rest_exact c [] v w = grind arith
 rest_exact c (d ∷ D) v w =
-    let each : All (λ p. held (rest p D) v ≡ (holds p v && not (held D v))) (cut c d) =
+    let each : AllByRecursion (λ p. held (rest p D) v ≡ (holds p v && not (held D v))) (cut c d) =
     All-weaker (λ p. length p ≡ length c) _ (λ p e. rest_exact p D v (rw e w.1)) (cut c d) (cut_wide c d) in
     grind (arith, held_joined (λ p. rest p D) (cut c d) D v each, cut_exact c d v (sym w.0))
 

@@ -1,6 +1,6 @@
 -- Cubes lying one after another: more on areas, and what a map of the parts does to them.
 use Rattle.std.proofs.Common.{◌≡◌, ℕ, zero, suc, ◌≤◌, List, [], ◌∷◌, ◌++◌, map, length, drop, sym, refl, ap, ◌∙◌, arith}
-use Rattle.std.specs.List.{AllByRecursion as All}
+use Rattle.std.specs.List.{AllByRecursion}
 use Rattle.std.proofs.lemmas.List.{append_assoc, map-append, take-map, drop-map, length-drop, length-append, length-map}
 use Rattle.cubes.specs.Areas.{cubes, flat, overlay}
 use Rattle.cubes.proofs.Areas as areas
@@ -13,7 +13,7 @@ flat-++ [] D = refl
 flat-++ (c ∷ C) D = ap (λ l. c ++ l) (flat-++ C D) ∙ sym (append_assoc c (flat C) (flat D))
 
 -- the cubes are found again
-pub cubes-flat : {X : Type 0} (p n : ℕ) (C : List (List X)) (xs : List X) → All (λ (c : List X). length c ≡ p) C → length C ≡ n → cubes p n (flat C ++ xs) ≡ C
+pub cubes-flat : {X : Type 0} (p n : ℕ) (C : List (List X)) (xs : List X) → AllByRecursion (λ (c : List X). length c ≡ p) C → length C ≡ n → cubes p n (flat C ++ xs) ≡ C
 cubes-flat p n C xs w e = rw (← e) (areas.cubes-flat p C xs w)
 
 -- ---- an area with cubes written from its start
@@ -21,7 +21,7 @@ cubes-flat p n C xs w e = rw (← e) (areas.cubes-flat p C xs w)
 pub length-overlay : {X : Type 0} (ys xs : List X) → length ys ≤ length xs → length (overlay ys xs) ≡ length xs
 length-overlay ys xs h = simp (length-append, length-drop) (omega arith)
 
-pub cubes-overlay : {X : Type 0} (p : ℕ) (C : List (List X)) (xs : List X) → All (λ (c : List X). length c ≡ p) C → cubes p (length C) (overlay (flat C) xs) ≡ C
+pub cubes-overlay : {X : Type 0} (p : ℕ) (C : List (List X)) (xs : List X) → AllByRecursion (λ (c : List X). length c ≡ p) C → cubes p (length C) (overlay (flat C) xs) ≡ C
 cubes-overlay p C xs w = areas.cubes-flat p C (drop (length (flat C)) xs) w
 
 -- ---- what a map of the parts does

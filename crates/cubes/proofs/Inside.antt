@@ -1,7 +1,7 @@
 -- What is left of a cube has no empty part; a cube that one of the cover swallows leaves nothing.
 use Rattle.std.proofs.Common.{◌≡◌, ℕ, true, eqb, [], ◌∷◌, ◌++◌, length, sym, refl, ◌∙◌, arith}
 use lib.Bits.{bit_and}
-use Rattle.std.specs.List.{flat_map, AllByRecursion as All}
+use Rattle.std.specs.List.{flat_map, AllByRecursion}
 use Rattle.std.proofs.lemmas.Bool.{cond_both, and_parts, and_from, eq-eqb, eqb-true}
 use Rattle.std.proofs.ByRecursion.{All-append, All-map, All-weaker}
 use Rattle.parts.specs.Sets.{has, minus, some}
@@ -12,7 +12,7 @@ use Rattle.cubes.proofs.Cuts.{cut_wide, all_joined}
 
 -- no cube of the cover has an empty part
 abbrev pub Live : Cover → Type 0
-Live C = All (λ (c : Cube). live c ≡ true) C
+Live C = AllByRecursion (λ (c : Cube). live c ≡ true) C
 
 -- ---- the rest has no empty part
 
@@ -50,10 +50,10 @@ pieces_none (a ∷ c) (b ∷ d) h =
 less_within : (a b s : ℕ) → eqb (minus a b) 0 ≡ true → ((x : ℕ) → has s x ≡ true → has a x ≡ true) → eqb (minus s b) 0 ≡ true
 less_within a b s h f = eq-eqb _ _ (none_less b s (λ x k. within b a x h (f x k)))
 
-covers-led : (s b : ℕ) (A B : Cube) → eqb (minus s b) 0 ≡ true → covers B A ≡ true → All (λ p. covers (b ∷ B) p ≡ true) (led s A)
-covers-led s b A B h k = cond_both (some s) ((s ∷ A) ∷ []) [] (All (λ p. covers (b ∷ B) p ≡ true)) (λ _. (and_from _ _ h k, tt)) (λ _. tt)
+covers-led : (s b : ℕ) (A B : Cube) → eqb (minus s b) 0 ≡ true → covers B A ≡ true → AllByRecursion (λ p. covers (b ∷ B) p ≡ true) (led s A)
+covers-led s b A B h k = cond_both (some s) ((s ∷ A) ∷ []) [] (AllByRecursion (λ p. covers (b ∷ B) p ≡ true)) (λ _. (and_from _ _ h k, tt)) (λ _. tt)
 
-pub covers-pieces : (d c x : Cube) → length c ≡ length d → covers d c ≡ true → All (λ p. covers d p ≡ true) (pieces c x)
+pub covers-pieces : (d c x : Cube) → length c ≡ length d → covers d c ≡ true → AllByRecursion (λ p. covers d p ≡ true) (pieces c x)
 covers-pieces d [] x e h = tt
 covers-pieces d (a ∷ c) [] e h = tt
 covers-pieces [] (a ∷ c) (y ∷ x) e h = absurd (omega arith)
@@ -65,16 +65,16 @@ covers-pieces (b ∷ d) (a ∷ c) (y ∷ x) e h =
     (All-map (λ p. covers (b ∷ d) p ≡ true) (λ p. bit_and a y ∷ p) (pieces c x)
     (All-weaker (λ p. covers d p ≡ true) _ (λ p k. and_from _ _ both k) (pieces c x) (covers-pieces d c x (omega arith) parts.1)))
 
-pub covers-cut : (d c x : Cube) → length c ≡ length d → covers d c ≡ true → All (λ p. covers d p ≡ true) (cut c x)
-covers-cut d c x e h = cond_both (meets c x) (pieces c x) (c ∷ []) (All (λ p. covers d p ≡ true)) (λ _. covers-pieces d c x e h) (λ _. (h, tt))
+pub covers-cut : (d c x : Cube) → length c ≡ length d → covers d c ≡ true → AllByRecursion (λ p. covers d p ≡ true) (cut c x)
+covers-cut d c x e h = cond_both (meets c x) (pieces c x) (c ∷ []) (AllByRecursion (λ p. covers d p ≡ true)) (λ _. covers-pieces d c x e h) (λ _. (h, tt))
 
 -- ---- a cube that one of the cover meets and covers leaves nothing
 
-joined_none : (f : Cube → Cover) (C : Cover) → All (λ c. f c ≡ []) C → flat_map f C ≡ []
+joined_none : (f : Cube → Cover) (C : Cover) → AllByRecursion (λ c. f c ≡ []) C → flat_map f C ≡ []
 joined_none f [] h = refl
 joined_none f (c ∷ C) h = rw h.0 (joined_none f C h.1)
 
-all_three : (P Q R : Cube → Type 0) (C : Cover) → All P C → All Q C → All R C → All (λ c. P c × Q c × R c) C
+all_three : (P Q R : Cube → Type 0) (C : Cover) → AllByRecursion P C → AllByRecursion Q C → AllByRecursion R C → AllByRecursion (λ c. P c × Q c × R c) C
 all_three P Q R [] h k l = tt
 all_three P Q R (c ∷ C) h k l = ((h.0, k.0, l.0), all_three P Q R C h.1 k.1 l.1)
 

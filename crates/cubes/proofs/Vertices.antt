@@ -1,7 +1,7 @@
 -- `meets` and `covers` in terms of vertices.
 use Rattle.std.proofs.Common.{◌≡◌, ℕ, suc, ◌^◌, ◌<◌, true, false, ◌&&◌, eqb, [], ◌∷◌, length, sym, refl, ap, ◌∙◌, inl, inr, arith}
 use lib.Bits.{bit_and}
-use Rattle.std.specs.List.{AllByRecursion as All}
+use Rattle.std.specs.List.{AllByRecursion}
 use Rattle.std.proofs.lemmas.Bool.Decides.{nat_tests}
 use Rattle.std.proofs.lemmas.Bool.{and_parts, and_from, eq-eqb, true≢false, cases_lt}
 use Rattle.parts.specs.Sets.{has, minus, some}
@@ -84,7 +84,7 @@ holds-covers (a ∷ A) (b ∷ B) e l h =
 
 -- ---- the vertices of a cube whose sets have only values below the most
 
-pub holds-below : (most : ℕ) (A : Cube) (v : Vertex) → length v ≡ length A → All (λ s. s < 2 ^ most) A → holds A v ≡ true → All (λ x. x < most) v
+pub holds-below : (most : ℕ) (A : Cube) (v : Vertex) → length v ≡ length A → AllByRecursion (λ s. s < 2 ^ most) A → holds A v ≡ true → AllByRecursion (λ x. x < most) v
 holds-below most [] [] e f h = tt
 holds-below most [] (x ∷ v) e f h = absurd (omega arith)
 holds-below most (a ∷ A) [] e f h = tt

@@ -1,6 +1,6 @@
 -- A cube is a list of sets, one to a part; a vertex is a list of values, one to a part; a cover is a list of cubes.
 use Rattle.std.specs.Prelude.{◌≡◌, ℕ, Bool, true, false, cond, ◌&&◌, ◌||◌, List, [], ◌∷◌, ◌++◌, map, length, ◌==◌, bit_and}
-use Rattle.std.specs.List.{flat_map, AllByRecursion as All}
+use Rattle.std.specs.List.{flat_map, AllByRecursion}
 use Rattle.parts.specs.Sets.{has, minus, some}
 
 abbrev pub Cube : Type 0
@@ -14,7 +14,7 @@ Cover = List Cube
 
 -- each cube of the cover has p parts
 abbrev pub Wide : ℕ → Cover → Type 0
-Wide p C = All (λ (c : Cube). length c ≡ p) C
+Wide p C = AllByRecursion (λ (c : Cube). length c ≡ p) C
 
 -- no part of the cube is empty
 abbrev pub live : Cube → Bool

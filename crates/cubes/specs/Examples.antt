@@ -1,6 +1,6 @@
 -- Worked cases. A set of the values 0 and 1 is written as a number: 1 is {0}, 2 is {1}, 3 is {0, 1}.
 use Rattle.std.specs.Prelude.{◌≡◌, true, List, [], ◌∷◌}
-use Rattle.std.specs.List.{AllByRecursion as All}
+use Rattle.std.specs.List.{AllByRecursion}
 use Rattle.cubes.specs.Cubes.{Cube, Cover, cut, rest}
 use Rattle.cubes.specs.Tables.{Row, all_rows, Lawful, Prime, Irredundant}
 
@@ -34,7 +34,7 @@ worked_cover = (1 ∷ 1 ∷ 3 ∷ []) ∷ (3 ∷ 2 ∷ 2 ∷ []) ∷ []
 -- it is lawful, each of its cubes is prime, and none can be struck out
 abbrev pub WorkedCover : Type 0
 WorkedCover =
-    Lawful 3 2 worked_universe worked_rows worked_cover × All (Prime 3 2 worked_universe worked_rows) worked_cover
+    Lawful 3 2 worked_universe worked_rows worked_cover × AllByRecursion (Prime 3 2 worked_universe worked_rows) worked_cover
     × Irredundant 3 2 worked_rows worked_cover
 
 -- ---- the cases
@@ -48,4 +48,4 @@ cases =
     ∷ []
 
 abbrev pub AllRight : Type 0
-AllRight = All Right cases
+AllRight = AllByRecursion Right cases

@@ -1,6 +1,6 @@
 -- The words of the subject, of a table (a universe and rows) and any list of cubes.
 use Rattle.std.specs.Prelude.{◌≡◌, ℕ, ◌^◌, ◌<◌, Bool, true, false, cond, List, [], ◌∷◌, ◌++◌, map, length, bit_or, slice_index, slice_set}
-use Rattle.std.specs.List.{AllByRecursion as All}
+use Rattle.std.specs.List.{AllByRecursion}
 use Rattle.parts.specs.Sets.{has}
 use Rattle.cubes.specs.Cubes.{Cube, Vertex, Cover, holds, held}
 
@@ -24,7 +24,7 @@ all_rows T = map (λ (r : Row). r.cube) T
 
 -- v is a vertex of p parts: p values, each below the most
 abbrev pub Point : ℕ → ℕ → Vertex → Type 0
-Point p most v = (length v ≡ p) × All (λ (x : ℕ). x < most) v
+Point p most v = (length v ≡ p) × AllByRecursion (λ (x : ℕ). x < most) v
 
 -- a care vertex: some ON row holds it, and no DC row
 abbrev pub Care : List Row → Vertex → Type 0

@@ -1,7 +1,7 @@
 -- One cube of an area is grown, and the others that it covers go: what becomes of the items.
 use Rattle.std.proofs.Common.{◌≡◌, ℕ, zero, suc, ◌+◌, ◌*◌, ◌<◌, ◌≤◌, false, List, [], ◌∷◌, ◌++◌, length, get_or, take, drop, set, sym, refl, ap, ◌∙◌, subst, ap₂, add-one, arith}
 use lib.Seq.{set-get_or}
-use Rattle.std.specs.List.{AllByRecursion as All}
+use Rattle.std.specs.List.{AllByRecursion}
 use Rattle.std.proofs.lemmas.List.{take-map, drop-map, take-set-le, drop-set-lt, get_or-set_same}
 use Rattle.cubes.specs.Areas.{cube_at, cubes, put_at}
 use Rattle.cubes.specs.Cubes.{Cube, Cover, Wide}
@@ -20,11 +20,11 @@ use Rattle.tending.specs.Items.{item_of, items_of, only_at}
 use Rattle.tending.proofs.Places.{length_items, get_or-items, cubes_items, items-put}
 
 -- the cubes of the items are safe where the cubes are
-pub safe_items : (p : ℕ) (R : Cover) (L : List Item) → Wide p (cubes_of L) → Apart R (cubes_of L) → All (λ i. Safe p R i.cube) L
+pub safe_items : (p : ℕ) (R : Cover) (L : List Item) → Wide p (cubes_of L) → Apart R (cubes_of L) → AllByRecursion (λ i. Safe p R i.cube) L
 safe_items p R [] w a = tt
 safe_items p R (i ∷ L) w a = ((w.0, a.0), safe_items p R L w.1 a.1)
 
-pub items_safe : (p : ℕ) (R : Cover) (L : List Item) → All (λ i. Safe p R i.cube) L → Apart R (cubes_of L)
+pub items_safe : (p : ℕ) (R : Cover) (L : List Item) → AllByRecursion (λ i. Safe p R i.cube) L → Apart R (cubes_of L)
 items_safe p R [] h = tt
 items_safe p R (i ∷ L) h = (h.0.1, items_safe p R L h.1)
 
@@ -79,5 +79,5 @@ module _ (p n : ℕ) (S : List ℕ) (K : List Card) (fits : n * p ≤ length S) 
   pub grown-apart : Wide p R → Apart R (cubes p n S) → Apart R (cubes_of (expanding U R (take at L) f (drop (suc at) L)))
   grown-apart w a =
       let P : Item → Type 0 = λ i. Safe p R i.cube in
-      let all : All P L = safe_items p R L (rw (cubes_items p n S K) (wide_cubes p n S fits)) (rw (cubes_items p n S K) a) in
-      items_safe p R (expanding U R (take at L) f (drop (suc at) L)) (expanding-safe p U R (take at L) f (drop (suc at) L) w (subst (All P) (split at L in-L) all))
+      let all : AllByRecursion P L = safe_items p R L (rw (cubes_items p n S K) (wide_cubes p n S fits)) (rw (cubes_items p n S K) a) in
+      items_safe p R (expanding U R (take at L) f (drop (suc at) L)) (expanding-safe p U R (take at L) f (drop (suc at) L) w (subst (AllByRecursion P) (split at L in-L) all))

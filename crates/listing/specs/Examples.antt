@@ -1,6 +1,6 @@
 -- Worked cases. A set of values is written as a number: 1 is {0}, 2 is {1}, 3 is {0, 1}, 5 is {0, 2}, 7 is {0, 1, 2}.
 use Rattle.std.specs.Prelude.{◌≡◌, ℕ, List, [], ◌∷◌, codes}
-use Rattle.std.specs.List.{AllByRecursion as All}
+use Rattle.std.specs.List.{AllByRecursion}
 use Rattle.cubes.specs.Cubes.{Cube}
 use Rattle.listing.specs.Text.{cube_text, cube_line, heading_line}
 
@@ -41,4 +41,4 @@ cases =
     ∷ []
 
 abbrev pub AllRight : Type 0
-AllRight = All Right cases
+AllRight = AllByRecursion Right cases

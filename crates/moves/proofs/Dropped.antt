@@ -1,6 +1,6 @@
 -- The cubes after Drop: each that is left has a vertex that no other holds, and no row that does not matter.
 use Rattle.std.proofs.Common.{◌≡◌, ℕ, ◌+◌, ◌<◌, ◌≤◌, Bool, true, false, cond, not, ◌||◌, eqb, List, [], ◌∷◌, ◌++◌, map, length, sym, refl, ap, ◌∙◌, subst, arith}
-use Rattle.std.specs.List.{ContainsAt as Has, AllByRecursion as All}
+use Rattle.std.specs.List.{ContainsAt, AllByRecursion}
 use Rattle.std.proofs.lemmas.List.{append-nil, append_assoc, length-append, length-map}
 use Rattle.std.proofs.ByRecursion.{All-append, All-weaker, All-map, all_has_itself}
 use Rattle.std.proofs.lemmas.Bool.{true≢false, cond_both, or_parts}
@@ -70,7 +70,7 @@ put_once X f Y E l h q =
     few (c ∷ []) l = omega arith
     few (c ∷ d ∷ E) l = absurd (omega arith)
 
-pub all_put : (P : Item → Type 0) (X : List Item) (f : Item) (Y : List Item) (E : Cover) → All P (X ++ f ∷ Y) → All (λ c. P (placed f c)) E → All P (put X f Y E)
+pub all_put : (P : Item → Type 0) (X : List Item) (f : Item) (Y : List Item) (E : Cover) → AllByRecursion P (X ++ f ∷ Y) → AllByRecursion (λ c. P (placed f c)) E → AllByRecursion P (put X f Y E)
 all_put P X f Y E h k =
     All-append P (X ++ map (placed f) E) Y
     (All-append P X (map (placed f) E) (all_left P X (f ∷ Y) h) (All-map P (placed f) E k)) (all_right P X (f ∷ Y) h).1
@@ -119,7 +119,7 @@ none-held (c ∷ C) v h = by (holds c v) h (none-held C v)
     by false e k = k (omega arith)
 
 -- an item of the list that holds a vertex counts
-counts : (L : List Item) (n : Vertex → ℕ) → ((v : Vertex) → count (cubes_of L) v ≤ n v) → All (λ i. (v : Vertex) → holds i.cube v ≡ true → 0 < n v) L
+counts : (L : List Item) (n : Vertex → ℕ) → ((v : Vertex) → count (cubes_of L) v ≤ n v) → AllByRecursion (λ i. (v : Vertex) → holds i.cube v ≡ true → 0 < n v) L
 counts [] n h = tt
 counts (i ∷ L) n h = (
   λ v k. let one : ◌≡◌ {A = ℕ} (cond (holds i.cube v) 1 0) 1 = ap (λ t. cond {A = ℕ} t 1 0) k in omega (arith, h v),
@@ -139,9 +139,9 @@ count-put X f Y E v =
 abbrev Alone : ℕ → Cover → Cover → Cube → Type 0
 Alone p C D c = (v : Vertex) × (length v ≡ p) × (holds c v ≡ true) × (count C v ≡ 1) × (held D v ≡ false)
 
-alone_needed : (p : ℕ) (C D : Cover) → All (Alone p C D) C → Needed p D C
+alone_needed : (p : ℕ) (C D : Cover) → AllByRecursion (Alone p C D) C → Needed p D C
 alone_needed p C D h X c Y e =
-    let (v, l, k, n, d) = (all_right (Alone p C D) X (c ∷ Y) (subst (All (Alone p C D)) e h)).0 in
+    let (v, l, k, n, d) = (all_right (Alone p C D) X (c ∷ Y) (subst (AllByRecursion (Alone p C D)) e h)).0 in
     let one : ◌≡◌ {A = ℕ} (cond (holds c v) 1 0) 1 = ap (λ t. cond {A = ℕ} t 1 0) k in
     (v, l, k, none-held (X ++ Y) v (omega (arith, ap (λ K. count K v) e, count-++ X (c ∷ Y) v, count-++ X Y v)), d)
 
@@ -155,7 +155,7 @@ dropping_once D X f Y _ h =
     let t : Bool = none_left (reduced f.cube (cubes_of X ++ cubes_of Y ++ D)) in
     put_once X f Y (cond t [] (f.cube ∷ [])) (cond_both t [] (f.cube ∷ []) (λ K. length K ≤ 1) (λ _. omega arith) (λ _. omega arith)) h
 
-pub dropping-taken : (C D : Cover) (B : Rule) → All Taken (taking (length C) B (dropping D) (started C))
+pub dropping-taken : (C D : Cover) (B : Rule) → AllByRecursion Taken (taking (length C) B (dropping D) (started C))
 dropping-taken C D B =
     taking-all B (dropping D) (λ _. Unit {0}) (λ _ _ _ _ _. tt) (dropping_less D (λ _. Unit {0})) (length C) (started C) tt (waits-started C)
 
@@ -164,7 +164,7 @@ dropping-taken C D B =
 module _ (p : ℕ) (C D : Cover) (pos : 0 < p) (wD : Wide p D) where
   -- p parts, and one of C
   abbrev Whole : Cube → Type 0
-  Whole c = (length c ≡ p) × Has C c
+  Whole c = (length c ≡ p) × ContainsAt C c
 
   abbrev Own : List Item → Item → Type 0
   Own L i = Alone p (cubes_of L) D i.cube
@@ -172,16 +172,16 @@ module _ (p : ℕ) (C D : Cover) (pos : 0 < p) (wD : Wide p D) where
   -- of the items taken each has a vertex of its own
   abbrev Good : List Item → Type 0
   Good L =
-      All (λ i. Whole i.cube × (i.taken ≡ true → Own L i)) L
+      AllByRecursion (λ i. Whole i.cube × (i.taken ≡ true → Own L i)) L
       × ((v : Vertex) → held C v ≡ true → held D v ≡ false → held (cubes_of L) v ≡ true)
       × ((v : Vertex) → held (cubes_of L) v ≡ true → held C v ≡ true) × (length L ≤ length C)
 
-  wide-items : (L : List Item) → All (λ i. Whole i.cube) L → Wide p (cubes_of L)
+  wide-items : (L : List Item) → AllByRecursion (λ i. Whole i.cube) L → Wide p (cubes_of L)
   wide-items L h = all_cubes (λ c. length c ≡ p) L (All-weaker (λ i. Whole i.cube) (λ i. length i.cube ≡ p) (λ i q. q.0) L h)
 
   -- a list in which no vertex is held more often
   still : (L M : List Item) → ((v : Vertex) → count (cubes_of M) v ≤ count (cubes_of L) v)
-      → All (λ i. Whole i.cube × (i.taken ≡ true → Own L i)) M → All (λ i. Whole i.cube × (i.taken ≡ true → Own M i)) M
+      → AllByRecursion (λ i. Whole i.cube × (i.taken ≡ true → Own L i)) M → AllByRecursion (λ i. Whole i.cube × (i.taken ≡ true → Own M i)) M
   still L M le h =
       all_both (λ i. Whole i.cube × (i.taken ≡ true → Own L i)) (λ i. (v : Vertex) → holds i.cube v ≡ true → 0 < count (cubes_of M) v)
       (λ i. Whole i.cube × (i.taken ≡ true → Own M i))
@@ -193,7 +193,7 @@ module _ (p : ℕ) (C D : Cover) (pos : 0 < p) (wD : Wide p D) where
       → ((v : Vertex) → count E v ≤ cond (holds f.cube v) 1 0)
       → ((v : Vertex) → holds f.cube v ≡ true → held (cubes_of X ++ cubes_of Y ++ D) v ≡ false → held E v ≡ true)
       → ((v : Vertex) → held E v ≡ true → holds f.cube v ≡ true)
-      → All (λ c. Whole c × Alone p (cubes_of (X ++ f ∷ Y)) D c) E → Good (X ++ f ∷ Y) → Good (put X f Y E)
+      → AllByRecursion (λ c. Whole c × Alone p (cubes_of (X ++ f ∷ Y)) D c) E → Good (X ++ f ∷ Y) → Good (put X f Y E)
   put_keeps X f Y E short le give back new h = (
     still L (put X f Y E) (λ v. omega (arith, count_item X f Y v, count-put X f Y E v, le v))
         (all_put (λ i. Whole i.cube × (i.taken ≡ true → Own L i)) X f Y E h.0
@@ -252,17 +252,17 @@ module _ (p : ℕ) (C D : Cover) (pos : 0 < p) (wD : Wide p D) where
   dropped B w =
       let L : List Item = taking (length C) B (dropping D) (started C) in
       let g : Good L = taking-keeps B (dropping D) Good act-keeps (length C) (started C) (
-        fresh Whole (λ i. Own (started C) i) C 0 C (all_both (λ c. length c ≡ p) (Has C) Whole (λ c e q. (e, q)) C w (all_has_itself C)),
+        fresh Whole (λ i. Own (started C) i) C 0 C (all_both (λ c. length c ≡ p) (ContainsAt C) Whole (λ c e q. (e, q)) C w (all_has_itself C)),
         λ v h _. ap (λ K. held K v) (cubes-carded C 0 C) ∙ h,
         λ v h. sym (ap (λ K. held K v) (cubes-carded C 0 C)) ∙ h,
         omega (arith, length-carded C 0 C),
       ) in
       let whole = All-weaker (λ i. Whole i.cube × (i.taken ≡ true → Own L i)) (λ i. Whole i.cube) (λ i q. q.0) L g.0 in
-      let alone : All (Alone p (cubes_of L) D) (cubes_of L) = all_cubes (Alone p (cubes_of L) D) L
+      let alone : AllByRecursion (Alone p (cubes_of L) D) (cubes_of L) = all_cubes (Alone p (cubes_of L) D) L
       (all_both (λ i. Whole i.cube × (i.taken ≡ true → Own L i)) Taken (Own L) (λ i q t. q.1 t) L g.0 (dropping-taken C D B)) in
       record {
         wide = wide-items L whole;
-        among = all_cubes (Has C) L (All-weaker (λ i. Whole i.cube) (λ i. Has C i.cube) (λ i q. q.1) L whole);
+        among = all_cubes (ContainsAt C) L (All-weaker (λ i. Whole i.cube) (λ i. ContainsAt C i.cube) (λ i q. q.1) L whole);
         alive = All-weaker (Alone p (cubes_of L) D) (λ c. live c ≡ true) (λ c q. vertex_live c q.0 q.2) (cubes_of L) alone;
         same = λ v d. bool_same (held (cubes_of L) v) (held C v) (g.2 v) (λ k. g.1 v k d);
         no_more = g.2;

@@ -1,6 +1,6 @@
 -- The expanded cubes: prime in each part, with every vertex that was held, and no more of them.
 use Rattle.std.proofs.Common.{◌≡◌, ℕ, ◌+◌, ◌<◌, ◌≤◌, Bool, true, false, cond, not, ◌||◌, eqb, List, [], ◌∷◌, ◌++◌, length, sym, refl, ap, ◌∙◌, arith}
-use Rattle.std.specs.List.{AllByRecursion as All}
+use Rattle.std.specs.List.{AllByRecursion}
 use Rattle.std.proofs.ByRecursion.{All-append, All-weaker, all_kept_by}
 use Rattle.std.proofs.lemmas.Bool.{true≢false}
 use Rattle.cubes.specs.Cubes.{Cube, Vertex, Cover, Wide, holds, held, covers}
@@ -26,7 +26,7 @@ tally-spared t g (i ∷ L) = by (covers g i.cube) (tally-spared t g L)
     by true h = omega arith
     by false h = omega arith
 
-held-spared : (p : ℕ) (g : Cube) (L : List Item) (v : Vertex) → length g ≡ p → All (λ i. length i.cube ≡ p) L
+held-spared : (p : ℕ) (g : Cube) (L : List Item) (v : Vertex) → length g ≡ p → AllByRecursion (λ i. length i.cube ≡ p) L
     → held (cubes_of L) v ≡ true → (holds g v || held (cubes_of (spared g L)) v) ≡ true
 unfolding spared
 held-spared p g [] v e w h = absurd (true≢false (sym h))
@@ -38,7 +38,7 @@ held-spared p g (i ∷ L) v e w h = by (covers g i.cube) (covers-holds g i.cube 
     by true c k = grind arith
     by false c k = grind arith
 
-all_spared : (P : Item → Type 0) (g : Cube) (L : List Item) → All P L → All P (spared g L)
+all_spared : (P : Item → Type 0) (g : Cube) (L : List Item) → AllByRecursion P L → AllByRecursion P (spared g L)
 unfolding spared
 all_spared P g L h = all_kept_by (λ i. not (covers g i.cube)) P L h
 
@@ -62,7 +62,7 @@ expanding_less U R P X f Y e _ = by (grown U R f.cube (cubes_of X ++ cubes_of Y)
           tally-spared waits g Y,
         )
 
-pub expanding-taken : (U : Cube) (R C : Cover) (B : Rule) → All Taken (taking (length C) B (expanding U R) (started C))
+pub expanding-taken : (U : Cube) (R C : Cover) (B : Rule) → AllByRecursion Taken (taking (length C) B (expanding U R) (started C))
 expanding-taken U R C B =
     taking-all B (expanding U R) (λ _. Unit {0}) (λ _ _ _ _ _. tt) (expanding_less U R (λ _. Unit {0})) (length C) (started C) tt (waits-started C)
 
@@ -74,15 +74,15 @@ module _ (p : ℕ) (U : Cube) (R C : Cover) (Q : Cube → Type 0) (eU : length U
   Done i = (Fit p U R i.cube × Q i.cube) × (i.taken ≡ true → PrimeIn p U R i.cube)
 
   abbrev Keeps : List Item → Type 0
-  Keeps L = All Done L × ((v : Vertex) → held C v ≡ true → held (cubes_of L) v ≡ true) × (length L ≤ length C)
+  Keeps L = AllByRecursion Done L × ((v : Vertex) → held C v ≡ true → held (cubes_of L) v ≡ true) × (length L ≤ length C)
 
   put_keeps : (X : List Item) (f : Item) (Y : List Item) (g : Cube) → Fit p U R g → covers g f.cube ≡ true → PrimeIn p U R g
       → Keeps (X ++ f ∷ Y) → Keeps (put_grown X f Y g)
   put_keeps X f Y g fit c prime h =
-      let dX : All Done X = all_left Done X (f ∷ Y) h.0 in
-      let dfY : All Done (f ∷ Y) = all_right Done X (f ∷ Y) h.0 in
+      let dX : AllByRecursion Done X = all_left Done X (f ∷ Y) h.0 in
+      let dfY : AllByRecursion Done (f ∷ Y) = all_right Done X (f ∷ Y) h.0 in
       let same : length g ≡ length f.cube = fit.0 ∙ sym dfY.0.0.0.0 in
-      let long = λ (L : List Item) (d : All Done L). All-weaker Done (λ i. length i.cube ≡ p) (λ i q. q.0.0.0) L d in (
+      let long = λ (L : List Item) (d : AllByRecursion Done L). All-weaker Done (λ i. length i.cube ≡ p) (λ i q. q.0.0.0) L d in (
         All-append Done (spared g X) (placed f g ∷ spared g Y) (all_spared Done g X dX)
             (((fit, up g f.cube same c dfY.0.0.1), λ _. prime), all_spared Done g Y dfY.1),
         λ v k. give (held (cubes_of X) v) (held (cubes_of Y) v) (held (cubes_of (spared g X)) v) (held (cubes_of (spared g Y)) v) (holds f.cube v) (holds g v)
@@ -108,11 +108,11 @@ module _ (p : ℕ) (U : Cube) (R C : Cover) (Q : Cube → Type 0) (eU : length U
 
   act-keeps : (X : List Item) (f : Item) (Y : List Item) → f.taken ≡ false → Keeps (X ++ f ∷ Y) → Keeps (expanding U R X f Y)
   act-keeps X f Y e h =
-      let dfY : All Done (f ∷ Y) = all_right Done X (f ∷ Y) h.0 in
+      let dfY : AllByRecursion Done (f ∷ Y) = all_right Done X (f ∷ Y) h.0 in
       let (a, b, c) = grown_good p U R f.cube (cubes_of X ++ cubes_of Y) eU wR dfY.0.0.0 in
       put_keeps X f Y (grown U R f.cube (cubes_of X ++ cubes_of Y)) a b c h
 
-  pub expanded : (B : Rule) → Wide p C → Within U C → Apart R C → All Q C → Expanded p U R C (expand B U R C) × All Q (expand B U R C)
+  pub expanded : (B : Rule) → Wide p C → Within U C → Apart R C → AllByRecursion Q C → Expanded p U R C (expand B U R C) × AllByRecursion Q (expand B U R C)
   unfolding expand
   expanded B w i a q =
       let L : List Item = taking (length C) B (expanding U R) (started C) in
@@ -130,7 +130,7 @@ module _ (p : ℕ) (U : Cube) (R C : Cover) (Q : Cube → Type 0) (eU : length U
         each Q (λ i d. d.0.1),
       )
     where
-      fits : (D : Cover) → Wide p D → Within U D → Apart R D → All Q D → All (λ c. Fit p U R c × Q c) D
+      fits : (D : Cover) → Wide p D → Within U D → Apart R D → AllByRecursion Q D → AllByRecursion (λ c. Fit p U R c × Q c) D
       fits [] w i a q = tt
       fits (c ∷ D) w i a q = (((w.0, i.0, a.0), q.0), fits D w.1 i.1 a.1 q.1)
 
@@ -148,10 +148,10 @@ expanding_once U R X f Y e h q = by (grown U R f.cube (cubes_of X ++ cubes_of Y)
 -- ---- no cube meets R, wherever the cubes lie
 
 pub expanding-safe : (p : ℕ) (U : Cube) (R : Cover) (X : List Item) (f : Item) (Y : List Item) → Wide p R
-    → All (λ i. Safe p R i.cube) (X ++ f ∷ Y) → All (λ i. Safe p R i.cube) (expanding U R X f Y)
+    → AllByRecursion (λ i. Safe p R i.cube) (X ++ f ∷ Y) → AllByRecursion (λ i. Safe p R i.cube) (expanding U R X f Y)
 expanding-safe p U R X f Y w h =
     let P : Item → Type 0 = λ i. Safe p R i.cube in
     let g : Cube = grown U R f.cube (cubes_of X ++ cubes_of Y) in
-    let k : All P (f ∷ Y) = all_right P X (f ∷ Y) h in
+    let k : AllByRecursion P (f ∷ Y) = all_right P X (f ∷ Y) h in
     All-append P (spared g X) (placed f g ∷ spared g Y) (all_spared P g X (all_left P X (f ∷ Y) h))
     (grown-safe p U R f.cube (cubes_of X ++ cubes_of Y) w k.0, all_spared P g Y k.1)

@@ -1,7 +1,7 @@
 -- What code on slices wants: the parts in which cubes miss each other, and the cubes that marks choose.
 use Rattle.std.proofs.Common.{◌≡◌, ℕ, zero, suc, ◌+◌, ◌<◌, ◌≤◌, Bool, true, false, cond, not, ◌&&◌, eqb, List, [], ◌∷◌, ◌++◌, length, get_or, replicate, sym, refl, ap, ◌∙◌, arith}
 use lib.Bits.{bit_and}
-use Rattle.std.specs.List.{flat_map, AllByRecursion as All}
+use Rattle.std.specs.List.{flat_map, AllByRecursion}
 use Rattle.std.proofs.lemmas.List.{append-nil}
 use Rattle.std.proofs.ByRecursion.{All-weaker}
 use Rattle.std.proofs.lemmas.Bool.Decides.{nat_tests}
@@ -87,7 +87,7 @@ meets_veil zero c h e = absurd (omega arith)
 meets_veil (suc n) [] h e = absurd (omega arith)
 meets_veil (suc n) (a ∷ c) h e = let none : bit_and a 0 ≡ 0 = empty (bit_and a 0) (λ x. grind (arith, has-and a 0 x, has-none x)) in rw none
 
-joined_same : (f g : Cube → Cover) (C : Cover) → All (λ c. f c ≡ g c) C → flat_map f C ≡ flat_map g C
+joined_same : (f g : Cube → Cover) (C : Cover) → AllByRecursion (λ c. f c ≡ g c) C → flat_map f C ≡ flat_map g C
 joined_same f g [] h = refl
 joined_same f g (c ∷ C) h = rw (h.0, joined_same f g C h.1)
 

@@ -1,6 +1,6 @@
 -- The theorems, as specs/Theorems.antt and specs/Examples.antt state them.
 use Rattle.std.proofs.Common.{◌≡◌, ℕ, true, false, List, [], ◌∷◌, ◌++◌, length, get_or, refl, ◌∙◌, arith}
-use Rattle.std.specs.List.{AllByRecursion as All}
+use Rattle.std.specs.List.{AllByRecursion}
 use Rattle.std.proofs.ByRecursion.{all-has, All-weaker}
 use Rattle.cubes.specs.Cubes.{Cube, Cover, live}
 use Rattle.cubes.specs.Tables.{Row, dc_rows, Prime}
@@ -91,7 +91,7 @@ veiled_rest = links.veiled_rest
 
 -- ---- the calls
 
-all_unit : (C : Cover) → All (λ _. Unit {0}) C
+all_unit : (C : Cover) → AllByRecursion (λ _. Unit {0}) C
 all_unit [] = tt
 all_unit (c ∷ C) = (tt, all_unit C)
 
@@ -109,7 +109,7 @@ finish_keeps p U R C D B pos eU wR wD w i a =
     let E : Cover = expand B U R C in
     let e = expand_keeps p U R C B eU wR w i a in
     let d = drop_keeps p E D _ pos e.wide wD in
-    let still = λ (P : Cube → Type 0) (h : All P E). All-weaker _ P (λ c q. all-has P E c h q) _ d.among in
+    let still = λ (P : Cube → Type 0) (h : AllByRecursion P E). All-weaker _ P (λ c q. all-has P E c h q) _ d.among in
     record {
       wide = d.wide;
       alive = d.alive;
@@ -142,7 +142,7 @@ dropped p most U T R C B s = drop_keeps p C (dc_rows T) B s.table.one s.wide (st
 drop_stands : (p most : ℕ) (U : Cube) (T : List Row) (R C : Cover) (B : Rule) → Standing p most U T R C → Standing p most U T R (drop_spare B (dc_rows T) C)
 drop_stands p most U T R C B s =
     let d = dropped p most U T R C B s in
-    let still = λ (P : Cube → Type 0) (h : All P C). All-weaker _ P (λ c q. all-has P C c h q) _ d.among in
+    let still = λ (P : Cube → Type 0) (h : AllByRecursion P C). All-weaker _ P (λ c q. all-has P C c h q) _ d.among in
     stands.still-stands p most U T R C s (drop_spare B (dc_rows T) C) d.wide d.alive (still _ s.within)
     (still _ (standing_apart p most U T R C s)) (λ v h o. d.same v o ∙ h)
 

@@ -2,7 +2,7 @@
 use Rattle.std.proofs.Common.{◌≡◌, ℕ, ◌^◌, ◌<◌, Bool, true, false, cond, ◌||◌, ◌↔◌, List, [], ◌∷◌, ◌++◌, length, get_or, set, sym, refl, ap, ◌∙◌, subst, ⊎_elim, arith}
 use native.Mathlib.Nat.{pow-le-pow_right}
 use lib.Bits.{bit_or}
-use Rattle.std.specs.List.{AllByRecursion as All}
+use Rattle.std.specs.List.{AllByRecursion}
 use Rattle.std.proofs.lemmas.List.{length-set}
 use Rattle.std.proofs.lemmas.Nat.{pow_pos}
 use Rattle.std.proofs.ByRecursion.{All-weaker}
@@ -21,19 +21,19 @@ use Rattle.moves.proofs.Vertices.{touches_since, touches_vertex, untouched, cove
 
 -- ---- rows
 
-pub all_on : (P : Cube → Type 0) (T : List Row) → All P (all_rows T) → All P (on_rows T)
+pub all_on : (P : Cube → Type 0) (T : List Row) → AllByRecursion P (all_rows T) → AllByRecursion P (on_rows T)
 all_on P [] h = tt
 all_on P (r ∷ T) h = by r.on (all_on P T h.1)
   where
-    by : (t : Bool) → All P (on_rows T) → All P (cond t (r.cube ∷ on_rows T) (on_rows T))
+    by : (t : Bool) → AllByRecursion P (on_rows T) → AllByRecursion P (cond t (r.cube ∷ on_rows T) (on_rows T))
     by true k = (h.0, k)
     by false k = k
 
-pub all_dc : (P : Cube → Type 0) (T : List Row) → All P (all_rows T) → All P (dc_rows T)
+pub all_dc : (P : Cube → Type 0) (T : List Row) → AllByRecursion P (all_rows T) → AllByRecursion P (dc_rows T)
 all_dc P [] h = tt
 all_dc P (r ∷ T) h = by r.on (all_dc P T h.1)
   where
-    by : (t : Bool) → All P (dc_rows T) → All P (cond t (dc_rows T) (r.cube ∷ dc_rows T))
+    by : (t : Bool) → AllByRecursion P (dc_rows T) → AllByRecursion P (cond t (dc_rows T) (r.cube ∷ dc_rows T))
     by true k = k
     by false k = (h.0, k)
 
@@ -127,7 +127,7 @@ module _ (p most : ℕ) (U : Cube) (T : List Row) (R C : Cover) (s : Standing p 
       (λ g. subst (λ z. has (get_or U k 0) z ≡ true) (sym (eqb-true y x (sym (has_only x y) ∙ g))) u)
       (or_cases _ _ (sym (has-or a (2 ^ x) y) ∙ h))))
 
-  pub prime-stands : All (PrimeIn p U R) C → All (Prime p most U T) C
+  pub prime-stands : AllByRecursion (PrimeIn p U R) C → AllByRecursion (Prime p most U T) C
   prime-stands h =
       all_both (λ c. (length c ≡ p) × (covers U c ≡ true)) (PrimeIn p U R) (Prime p most U T) prime C
       (all_both (λ c. length c ≡ p) (λ c. covers U c ≡ true) (λ c. (length c ≡ p) × (covers U c ≡ true)) (λ c e i. (e, i)) C s.wide s.within) h

@@ -1,6 +1,6 @@
 -- Items taken one after the other: what each step keeps, the whole call keeps; and in the end all are taken.
 use Rattle.std.proofs.Common.{◌≡◌, ℕ, zero, suc, ◌+◌, ◌<◌, ◌≤◌, Bool, true, false, cond, not, eqb, ◌≢◌, List, [], ◌∷◌, ◌++◌, length, get_or, take, drop, Some, None, Option, sym, refl, ap, ◌∙◌, subst, ⊎_elim, suc-add, zero-add, arith}
-use Rattle.std.specs.List.{AllByRecursion as All}
+use Rattle.std.specs.List.{AllByRecursion}
 use Rattle.std.proofs.lemmas.List.{map-append, length-map}
 use Rattle.std.proofs.lemmas.Bool.{not-true, ne_eqb, eqb-true, eq-eqb, cases_lt, true≢false}
 use Rattle.cubes.specs.Cubes.{Cube, Cover}
@@ -26,19 +26,19 @@ pub tally-++ : (t : Item → Bool) (X Y : List Item) → tally t (X ++ Y) ≡ ta
 tally-++ t [] Y = omega arith
 tally-++ t (i ∷ X) Y = omega (arith, tally-++ t X Y)
 
-pub all_left : {X : Type 0} (P : X → Type 0) (xs ys : List X) → All P (xs ++ ys) → All P xs
+pub all_left : {X : Type 0} (P : X → Type 0) (xs ys : List X) → AllByRecursion P (xs ++ ys) → AllByRecursion P xs
 all_left P [] ys h = tt
 all_left P (x ∷ xs) ys h = (h.0, all_left P xs ys h.1)
 
-pub all_right : {X : Type 0} (P : X → Type 0) (xs ys : List X) → All P (xs ++ ys) → All P ys
+pub all_right : {X : Type 0} (P : X → Type 0) (xs ys : List X) → AllByRecursion P (xs ++ ys) → AllByRecursion P ys
 all_right P [] ys h = h
 all_right P (x ∷ xs) ys h = all_right P xs ys h.1
 
-pub all_both : {X : Type 0} (P Q S : X → Type 0) → ((x : X) → P x → Q x → S x) → (xs : List X) → All P xs → All Q xs → All S xs
+pub all_both : {X : Type 0} (P Q S : X → Type 0) → ((x : X) → P x → Q x → S x) → (xs : List X) → AllByRecursion P xs → AllByRecursion Q xs → AllByRecursion S xs
 all_both P Q S f [] p q = tt
 all_both P Q S f (x ∷ xs) p q = (f x p.0 q.0, all_both P Q S f xs p.1 q.1)
 
-pub all_cubes : (P : Cube → Type 0) (L : List Item) → All (λ i. P i.cube) L → All P (cubes_of L)
+pub all_cubes : (P : Cube → Type 0) (L : List Item) → AllByRecursion (λ i. P i.cube) L → AllByRecursion P (cubes_of L)
 all_cubes P [] h = tt
 all_cubes P (i ∷ L) h = (h.0, all_cubes P L h.1)
 
@@ -83,11 +83,11 @@ module _ (B : Rule) (act : Act) (P : List Item → Type 0)
 abbrev pub Taken : Item → Type 0
 Taken i = i.taken ≡ true
 
-all_taken : (L : List Item) → tally waits L ≡ 0 → All Taken L
+all_taken : (L : List Item) → tally waits L ≡ 0 → AllByRecursion Taken L
 all_taken [] h = tt
 all_taken (i ∷ L) h = by i.taken refl h (all_taken L)
   where
-    by : (t : Bool) → i.taken ≡ t → cond (not t) 1 0 + tally waits L ≡ 0 → (tally waits L ≡ 0 → All Taken L) → (i.taken ≡ true) × All Taken L
+    by : (t : Bool) → i.taken ≡ t → cond (not t) 1 0 + tally waits L ≡ 0 → (tally waits L ≡ 0 → AllByRecursion Taken L) → (i.taken ≡ true) × AllByRecursion Taken L
     by true e h g = (e, g (omega arith))
     by false e h g = absurd (omega arith)
 
@@ -131,7 +131,7 @@ module _ (B : Rule) (act : Act) (P : List Item → Type 0)
             ap (tally waits) (split i L g.0),
           )
 
-  pub taking-all : (n : ℕ) (L : List Item) → P L → tally waits L ≤ n → All Taken (taking n B act L)
+  pub taking-all : (n : ℕ) (L : List Item) → P L → tally waits L ≤ n → AllByRecursion Taken (taking n B act L)
   taking-all zero L k h = all_taken L (omega arith)
   taking-all (suc n) L k h = taking-all n (step B act L) (step_keeps B act P kept L k) (step_less n L k h)
 
@@ -166,8 +166,8 @@ pub waits-started : (C : Cover) → tally waits (started C) ≤ length C
 waits-started C = rw (← length-carded C 0 C) (tally_le waits (started C))
 
 -- what is known of each cube, and of nothing that was taken
-pub fresh : (P : Cube → Type 0) (Q : Item → Type 0) (C : Cover) (k : ℕ) (D : Cover) → All P D
-    → All (λ i. P i.cube × (i.taken ≡ true → Q i)) (carded C k D)
+pub fresh : (P : Cube → Type 0) (Q : Item → Type 0) (C : Cover) (k : ℕ) (D : Cover) → AllByRecursion P D
+    → AllByRecursion (λ i. P i.cube × (i.taken ≡ true → Q i)) (carded C k D)
 fresh P Q C k [] h = tt
 fresh P Q C k (c ∷ D) h = ((h.0, λ q. absurd (true≢false (sym q))), fresh P Q C (suc k) D h.1)
 

@@ -1,6 +1,6 @@
 -- Worked cases. In a part of two values 0 is 1, 1 is 2 and - is 3.
 use Rattle.std.specs.Prelude.{◌≡◌, List, [], ◌∷◌, ◌++◌}
-use Rattle.std.specs.List.{AllByRecursion as All}
+use Rattle.std.specs.List.{AllByRecursion}
 use Rattle.cubes.specs.Cubes.{Cube, Cover, rest}
 use Rattle.cubes.specs.Examples.{worked_universe, worked_rows}
 use Rattle.orders.specs.Rules.{Rule, place_rule, light_rule}
@@ -78,7 +78,7 @@ cases =
     ∷ []
 
 abbrev pub AllRight : Type 0
-AllRight = All Right cases
+AllRight = AllByRecursion Right cases
 
 -- the table with the ON rows 000, 001, 011, 111 is proper
 abbrev pub WorkedProper : Type 0

@@ -1,6 +1,6 @@
 -- One relation between a table, its off list and a list of cubes, which the calls keep.
 use Rattle.std.specs.Prelude.{◌≡◌, ℕ, ◌-◌, ◌^◌, ◌≤◌, true, ◌↔◌, List, length}
-use Rattle.std.specs.List.{AllByRecursion as All}
+use Rattle.std.specs.List.{AllByRecursion}
 use Rattle.cubes.specs.Cubes.{Cube, Vertex, Cover, Wide, held}
 use Rattle.cubes.specs.Tables.{Row, all_rows, Point, Off, Lawful}
 use Rattle.moves.specs.Sound.{Alive, Within}
@@ -13,7 +13,7 @@ Sized most u = (s : ℕ) × (1 ≤ s) × (s ≤ most) × (u ≡ 2 ^ s - 1)
 pub record Proper (p most : ℕ) (U : Cube) (T : List Row) : Type 0 where
   pub parts : length U ≡ p
   pub one : 1 ≤ p
-  pub sizes : All (Sized most) U
+  pub sizes : AllByRecursion (Sized most) U
   pub wide : Wide p (all_rows T)
   pub alive : Alive (all_rows T)
   pub within : Within U (all_rows T)

@@ -1,6 +1,6 @@
 -- What is proved of orders and calls, a statement to a name.
 use Rattle.std.specs.Prelude.{◌≡◌, ℕ, suc, ◌+◌, ◌<◌, Bool, true, false, cond, not, ◌&&◌, ◌||◌, ◌≢◌, ◌↔◌, List, [], ◌∷◌, ◌++◌, length, get_or, take, drop, replicate, None, ◌==◌, bit_and, slice_index, slice_index_or}
-use Rattle.std.specs.List.{AllByRecursion as All}
+use Rattle.std.specs.List.{AllByRecursion}
 use Rattle.parts.specs.Sets.{some}
 use Rattle.cubes.specs.Cubes.{Cube, Vertex, Cover, Wide, live, holds, held, meets, rest}
 use Rattle.cubes.specs.Tables.{Row, on_rows, dc_rows, all_rows, Prime, Irredundant}
@@ -40,8 +40,8 @@ PlacesDiffer =
 abbrev pub EveryTaken : Type 0
 EveryTaken =
     (U : Cube) (R C D : Cover) (B : Rule)
-    → All (λ i. i.taken ≡ true) (taking (length C) B (expanding U R) (started C))
-    × All (λ i. i.taken ≡ true) (taking (length C) B (dropping D) (started C))
+    → AllByRecursion (λ i. i.taken ≡ true) (taking (length C) B (expanding U R) (started C))
+    × AllByRecursion (λ i. i.taken ≡ true) (taking (length C) B (dropping D) (started C))
 
 -- more steps change nothing
 abbrev pub StepsEnough : Type 0
@@ -153,7 +153,7 @@ CallsStand =
 -- after Expand each cube is prime
 abbrev pub ExpandPrime : Type 0
 ExpandPrime =
-    (p most : ℕ) (U : Cube) (T : List Row) (R C : Cover) (B : Rule) → Standing p most U T R C → All (Prime p most U T) (expand B U R C)
+    (p most : ℕ) (U : Cube) (T : List Row) (R C : Cover) (B : Rule) → Standing p most U T R C → AllByRecursion (Prime p most U T) (expand B U R C)
 
 -- after Drop no cube can be struck out
 abbrev pub DropIrredundant : Type 0
@@ -165,4 +165,4 @@ DropIrredundant =
 abbrev pub FinishEnds : Type 0
 FinishEnds =
     (p most : ℕ) (U : Cube) (T : List Row) (R C : Cover) (B : Rule) → Standing p most U T R C
-    → let E = finish B U R (dc_rows T) C in All (Prime p most U T) E × Irredundant p most T E
+    → let E = finish B U R (dc_rows T) C in AllByRecursion (Prime p most U T) E × Irredundant p most T E

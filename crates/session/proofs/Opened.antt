@@ -1,11 +1,11 @@
 -- What Open leaves, in the subject's words.
-use Rattle.std.proofs.Common.{◌≡◌, ℕ, zero, suc, ◌+◌, ◌-◌, ◌*◌, ◌<◌, ◌≤◌, min, Bool, true, false, cond, leb, List, [], ◌∷◌, map, length, get_or, take, drop, replicate, Ok, Err, Result, sym, refl, ap, ◌∙◌, subst, ap₂, add-mul, one-mul, add-one, arith}
-use Rattle.std.specs.List.{AllByRecursion as All}
+use Rattle.std.proofs.Common.{◌≡◌, ℕ, zero, suc, ◌+◌, ◌-◌, ◌*◌, ◌≤◌, Bool, true, false, cond, leb, List, ◌∷◌, map, length, get_or, take, drop, replicate, Ok, Err, Result, sym, refl, ap, ◌∙◌, subst, ap₂, add-mul, one-mul, add-one, arith}
+use Rattle.std.specs.List.{AllByRecursion}
 use Rattle.std.proofs.lemmas.List.{length-take-le, length-drop, length-map, take_all, take-map, drop-map, drop_at}
 use Rattle.std.proofs.lemmas.Bool.{leb-true}
 use Rattle.cubes.specs.Areas.{cubes, flat, overlay}
 use Rattle.cubes.specs.Cubes.{Cube, Cover, Wide, rest}
-use Rattle.cubes.specs.Tables.{Row, on_rows, all_rows}
+use Rattle.cubes.specs.Tables.{on_rows, all_rows}
 use Rattle.cubes.proofs.Cuts.{rest_wide}
 use Rattle.cubes.proofs.Flat.{cubes-overlay, wide_cubes, length-flat, map-overlay, map-flat}
 use Rattle.cubes.proofs.Proved.{rest_exact, on_rows_lawful}
@@ -32,11 +32,11 @@ on_cubes_lem : (p n : ℕ) (ts : List ℕ) (cs : List Card) → on_cubes p n ts 
 on_cubes_lem p zero ts cs = refl
 on_cubes_lem p (suc n) ts cs = ap (λ C. cond (is_on (get_or cs 0 blank)) (take p ts ∷ C) C) (on_cubes_lem p n (drop p ts) (drop 1 cs))
 
-wide_either : {X : Type 0} (p : ℕ) (t : Bool) (c : List X) (C : List (List X)) → length c ≡ p → All (λ (d : List X). length d ≡ p) C → All (λ (d : List X). length d ≡ p) (cond t (c ∷ C) C)
+wide_either : {X : Type 0} (p : ℕ) (t : Bool) (c : List X) (C : List (List X)) → length c ≡ p → AllByRecursion (λ (d : List X). length d ≡ p) C → AllByRecursion (λ (d : List X). length d ≡ p) (cond t (c ∷ C) C)
 wide_either p true c C e w = (e, w)
 wide_either p false c C e w = w
 
-wide_on : {X : Type 0} (p n : ℕ) (ts : List X) (cs : List Card) → n * p ≤ length ts → All (λ (d : List X). length d ≡ p) (on_cubes p n ts cs)
+wide_on : {X : Type 0} (p n : ℕ) (ts : List X) (cs : List Card) → n * p ≤ length ts → AllByRecursion (λ (d : List X). length d ≡ p) (on_cubes p n ts cs)
 wide_on p zero ts cs h = tt
 wide_on p (suc n) ts cs h =
     let e : suc n * p ≡ n * p + p = omega (arith, add-mul n 1 p, one-mul p, add-one n) in

@@ -7,14 +7,14 @@ use Rattle.orders.proofs.Bests.{best-below}
 use Rattle.orders.proofs.Cards.{first_of_lem}
 use Rattle.orders.proofs.Rules.{directed_ordered}
 use Rattle.orders.proofs.search.first_sought.Goals as goal
-use Rattle.orders.proofs.search.first_sought.Goals.{then-looks-at+in-None, then-looks-at+in-Some+then-comes-before, then-looks-at+in-Some+else-comes-before, else-looks-at}
+use Rattle.orders.proofs.search.first_sought.Goals.{then-looks_at+in-None, then-looks_at+in-Some+then-comes_before, then-looks_at+in-Some+else-comes_before, else-looks_at}
 
 -- the best so far is one of the cards seen
 below : (g : _) (c : goal.In-Some g) → c.in-Some.b < length c.args.cards.now
 below g c = omega (arith, best-below _ _ c.loop-i.i c.in-Some.b (sym c.loop-i.invariant ∙ c.in-Some.is))
 
-pub offset-bounds-cards-b : goal.offset-bounds-cards-b
-offset-bounds-cards-b g c = let h = below g c in search rules
+pub offset_bounds-cards-b : goal.offset_bounds-cards-b
+offset_bounds-cards-b g c = let h = below g c in search rules
 
 pub bounds-cards-b : goal.bounds-cards-b
 bounds-cards-b g c = below g c
@@ -25,11 +25,11 @@ loop-i-preserved g c =
     let i = c.loop-i.i in
     let B = directed c.args.along (g.O.Order.before c.args.order.now) in
     let next = against (sought_by c.args.sought (get_or cs i blank)) (λ i j. precedes B (get_or cs i blank) (get_or cs j blank)) i in
-    let e : c.if-looks-at.found ≡ next c.loop-i.found = elim c.if-looks-at.branch [
-      | then-looks-at+in-None w ↦ search rules
-      | then-looks-at+in-Some+then-comes-before w ↦ search rules
-      | then-looks-at+in-Some+else-comes-before w ↦ search rules
-      | else-looks-at w ↦ search rules
+    let e : c.if-looks_at.found ≡ next c.loop-i.found = elim c.if-looks_at.branch [
+      | then-looks_at+in-None w ↦ search rules
+      | then-looks_at+in-Some+then-comes_before w ↦ search rules
+      | then-looks_at+in-Some+else-comes_before w ↦ search rules
+      | else-looks_at w ↦ search rules
     ] in
     rw add-one (e ∙ ap next c.loop-i.invariant)
 

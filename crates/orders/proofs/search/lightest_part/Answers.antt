@@ -5,13 +5,13 @@ use Rattle.orders.specs.Searches.{lightest, IsLightest}
 use Rattle.orders.proofs.Bests.{best-below}
 use Rattle.orders.proofs.Cards.{lightest_first}
 use Rattle.orders.proofs.search.lightest_part.Goals as goal
-use Rattle.orders.proofs.search.lightest_part.Goals.{then-not-taken-i+in-None, then-not-taken-i+in-Some+then-comes-before, then-not-taken-i+in-Some+else-comes-before, else-not-taken-i}
+use Rattle.orders.proofs.search.lightest_part.Goals.{then-not-taken-i+in-None, then-not-taken-i+in-Some+then-comes_before, then-not-taken-i+in-Some+else-comes_before, else-not-taken-i}
 
 pub bounds-weights-b : goal.bounds-weights-b
 bounds-weights-b c = omega (arith, best-below _ _ c.loop-i.i c.in-Some.b (sym c.loop-i.invariant ∙ c.in-Some.is))
 
-pub offset-bounds-weights-b : goal.offset-bounds-weights-b
-offset-bounds-weights-b c = let h : c.in-Some.b < 16 = bounds-weights-b c in search rules
+pub offset_bounds-weights-b : goal.offset_bounds-weights-b
+offset_bounds-weights-b c = let h : c.in-Some.b < 16 = bounds-weights-b c in search rules
 
 pub loop-i-preserved : goal.loop-i-preserved
 loop-i-preserved c =
@@ -20,8 +20,8 @@ loop-i-preserved c =
     let next = against (not (get_or c.args.taken i false)) (λ i j. light_rule (w i) i (w j) j) i in
     let e : c.if-not-taken-i.found ≡ next c.loop-i.found = elim c.if-not-taken-i.branch [
       | then-not-taken-i+in-None w ↦ search rules
-      | then-not-taken-i+in-Some+then-comes-before w ↦ search rules
-      | then-not-taken-i+in-Some+else-comes-before w ↦ search rules
+      | then-not-taken-i+in-Some+then-comes_before w ↦ search rules
+      | then-not-taken-i+in-Some+else-comes_before w ↦ search rules
       | else-not-taken-i w ↦ search rules
     ] in
     rw add-one (e ∙ ap next c.loop-i.invariant)

@@ -1,5 +1,4 @@
-use Rattle.std.proofs.Common.{◌≡◌, ℕ, ◌-◌, List, map, take, Ok, Err, sym, refl, ap, ◌∙◌, arith}
-use Rattle.cubes.specs.Areas.{put_at}
+use Rattle.std.proofs.Common.{◌≡◌, ℕ, ◌-◌, map, take, Err, sym, ap, ◌∙◌, arith}
 use Rattle.table.specs.Filling.{Verdict, add_verdict, made_row}
 use Rattle.session.proofs.adding.add.Goals as goal
 
