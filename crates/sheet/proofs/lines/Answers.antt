@@ -15,21 +15,21 @@ kind_said :
 kind_said sheet rest c s l e r h =
     rw l (ap (lines_from (length sheet) s) r ∙ sym (lines_more (length sheet) start sheet c (sym e) s [] (sym h)))
 
-pub returns-then-is-long : goal.returns-then-is-long
-returns-then-is-long c =
+pub returns-then-is_long : goal.returns-then-is_long
+returns-then-is_long c =
     let long : ltb 4096 (length c.args.sheet.now) ≡ true = search rules in
-    said_so string_bytes c.line.result _ _ (ap (λ f. refusal_line f 0) c.by-sheet.ensures ∙ sym (cond-true _ _ _ long)) c.line.ensures
+    said_so string_bytes c.line.result _ _ (ap (λ f. refusal_line f 0) c.by_sheet.ensures ∙ sym (cond-true _ _ _ long)) c.line.ensures
 
 pub returns-in-Ok-Word : goal.returns-in-Ok-Word
 returns-in-Ok-Word c =
-    said_so string_bytes c.size-parts.result _ _
+    said_so string_bytes c.size_parts.result _ _
     (kind_said c.args.sheet.now c.in-Ok-Some.rest.now c.in-Ok-Some.command (sizing 64 (replicate 16 0) 0) (search rules) (search rules)
     (search rules) (search rules))
-    c.size-parts.ensures
+    c.size_parts.ensures
 
 pub returns-in-Ok-Ternary : goal.returns-in-Ok-Ternary
 returns-in-Ok-Ternary c =
-    said_so string_bytes c.size-parts-in-Ok-Ternary.result _ _
+    said_so string_bytes c.size_parts-in-Ok-Ternary.result _ _
     (kind_said c.args.sheet.now c.in-Ok-Some.rest.now c.in-Ok-Some.command (sizing 2 (replicate 16 0) 0) (search rules) (search rules)
     (search rules) (search rules))
-    c.size-parts-in-Ok-Ternary.ensures
+    c.size_parts-in-Ok-Ternary.ensures

@@ -8,9 +8,9 @@ loop-k-preserved c =
     let row = c.loop-k.row in
     let k = c.loop-k.k in
     let sizes = c.args.sizes.now in
-    let w = c.full-word.result in (
+    let w = c.full_word.result in (
       take_more_set row k w (omega arith)
-          ∙ ap₂ (λ (r : List ℕ) (x : ℕ). r ++ x ∷ []) c.loop-k.invariant.0 c.full-word.ensures
+          ∙ ap₂ (λ (r : List ℕ) (x : ℕ). r ++ x ∷ []) c.loop-k.invariant.0 c.full_word.ensures
           ∙ sym (map_more whole sizes k 0 (omega arith)),
       length-set row k w ∙ c.loop-k.invariant.1,
     )

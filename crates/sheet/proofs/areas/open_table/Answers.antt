@@ -16,4 +16,4 @@ returns-in-Ok g c =
     leaving (Ok (opened c.in-Ok.o)) (map set last.off) (map set last.solution) last.cards (map set last.work) last.numbers ≡ o =
     search rules in
     table-opened set a last.off last.solution last.cards last.work last.numbers o (opened c.in-Ok.o) c.cubes.result
-    c.off-cubes.result c.cubes.ensures c.off-cubes.ensures leaves (omega arith) (omega arith) (omega arith) (omega arith) (omega arith)
+    c.off_cubes.result c.cubes.ensures c.off_cubes.ensures leaves (omega arith) (omega arith) (omega arith) (omega arith) (omega arith)

@@ -14,7 +14,7 @@ returns-in-Ok-Table g c =
     let read : Ok (Some command) ≡ reading bytes = search rules in
     let step : begins most c.size.new.sizes c.loop-command.p command ≡ at_sizing most c.loop-command.sizes c.loop-command.p command = search rules in
     let begun = lines_begun_lem c.args.end most c.loop-command.sizes c.size.new.sizes c.loop-command.p bytes command (sym read) step in
-    said_so string_bytes c.fill-table.result _ _ (begun ∙ c.loop-command.invariant.3) c.fill-table.ensures
+    said_so string_bytes c.fill_table.result _ _ (begun ∙ c.loop-command.invariant.3) c.fill_table.ensures
 
 pub loop-command-preserved : goal.loop-command-preserved
 loop-command-preserved g c =
