@@ -1,18 +1,18 @@
 -- The values that block a part, gathered from one cube after another.
-use Rattle.std.proofs.Common.{◌≡◌, ℕ, zero, suc, ◌+◌, ◌-◌, ◌*◌, ◌%◌, ◌^◌, ◌<◌, ◌≤◌, Bool, true, false, cond, not, ◌&&◌, ◌||◌, eqb, ltb, List, [], ◌∷◌, ◌++◌, map, length, get_or, take, drop, set, Some, None, Option, sym, refl, ap, ◌∙◌, ap₂, ⊎_elim, arith}
-use lib.Bits.{bit_and, bit_or, or_zero_l, or_zero_r}
+use Rattle.std.proofs.Common.{◌≡◌, ℕ, zero, suc, ◌+◌, ◌-◌, ◌*◌, ◌%◌, ◌^◌, ◌<◌, ◌≤◌, true, false, cond, not, ◌&&◌, ltb, List, [], ◌∷◌, ◌++◌, map, length, get_or, take, drop, set, Some, None, Option, sym, ap, ◌∙◌, ⊎_elim, arith}
+use lib.Bits.{bit_or, or_zero_l, or_zero_r}
 use Rattle.std.specs.List.{range_with_len}
 use Rattle.std.proofs.lemmas.List.FromFn.{fill_by_all}
 use Rattle.std.proofs.lemmas.List.{get_or-set_same, get_or-set_other, get_or-take, length-take, take-append-drop, set-append_left, set-append_right, length-map}
 use Rattle.std.proofs.lemmas.Bool.{cases_eq, cases_Bool}
 use Rattle.std.proofs.lemmas.Bool.Decides.{nat_tests}
-use Rattle.parts.specs.Sets.{has, minus, some}
+use Rattle.parts.specs.Sets.{has, minus}
 use Rattle.parts.proofs.Bits.{has-or, has-minus, has_low, has_past, same}
 use Rattle.cubes.specs.Areas.{cube_at, cubes, put_at}
 use Rattle.cubes.specs.Cubes.{Cube, Cover, meets}
 use Rattle.cubes.proofs.Areas.{length-cubes, get_or-cubes, cubes_more, length-cube_at, place_below}
 use Rattle.moves.specs.Widen.{touches, beside, blocked}
-use Rattle.moves.specs.Expand.{over, misses}
+use Rattle.moves.specs.Expand.{over}
 use Rattle.growth.specs.Missed.{only_missed, is_at, Once}
 use Rattle.growth.proofs.Missed.{only_beside}
 

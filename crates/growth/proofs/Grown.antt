@@ -1,12 +1,11 @@
 -- A cube that grows part after part in an area.
-use Rattle.std.proofs.Common.{◌≡◌, ℕ, zero, suc, ◌+◌, ◌-◌, ◌*◌, ◌<◌, ◌≤◌, Bool, true, false, cond, not, List, [], ◌∷◌, ◌++◌, length, get_or, take, drop, set, replicate, Some, None, Option, sym, refl, ap, ◌∙◌, subst, ap₂, arith}
+use Rattle.std.proofs.Common.{◌≡◌, ℕ, zero, suc, ◌+◌, ◌-◌, ◌*◌, ◌<◌, ◌≤◌, Bool, true, false, List, [], ◌∷◌, ◌++◌, length, get_or, take, drop, set, replicate, Some, None, sym, refl, ap, ◌∙◌, ap₂, arith}
 use Rattle.std.proofs.lemmas.List.{length-set, get_or-take, take-append-drop, take-replicate, drop-drop}
 use Rattle.cubes.specs.Areas.{cube_at, put_at}
 use Rattle.cubes.specs.Cubes.{Cube, Cover}
-use Rattle.cubes.proofs.Areas.{length-cube_at, length-put, take_put, drop-put, cubeAt-put}
+use Rattle.cubes.proofs.Areas.{length-cube_at, take_put, drop-put, cubeAt-put}
 use Rattle.moves.specs.Widen.{widened}
 use Rattle.moves.specs.Expand.{part_weight, over, widen_at, growing, grown, Growth}
-use Rattle.orders.specs.Rules.{light_rule}
 use Rattle.orders.specs.Searches.{lightest}
 use Rattle.orders.proofs.Cards.{lightest_alike}
 

@@ -1,7 +1,7 @@
 -- The one part in which cubes share no value, step by step, and what it says.
 use Rattle.std.proofs.Common.{◌≡◌, ℕ, zero, suc, ◌+◌, ◌<◌, ◌≤◌, Bool, true, false, cond, not, ◌&&◌, eqb, List, [], ◌∷◌, map, length, get_or, drop, set, Some, None, Option, sym, refl, ap, ◌∙◌, add-one, arith}
 use lib.Bits.{bit_and}
-use Rattle.std.proofs.lemmas.List.{length-map, drop_all, drop_more, length-set, get_or-set_same, get_or-set_other}
+use Rattle.std.proofs.lemmas.List.{drop_all, drop_more, length-set, get_or-set_same, get_or-set_other}
 use Rattle.std.proofs.lemmas.Bool.Decides.{nat_tests}
 use Rattle.parts.specs.Sets.{some}
 use Rattle.cubes.specs.Cubes.{Cube, meets}

@@ -1,10 +1,10 @@
 -- The weights of the parts, counted from one cube after another.
-use Rattle.std.proofs.Common.{◌≡◌, ℕ, zero, suc, ◌+◌, ◌-◌, ◌*◌, ◌%◌, ◌^◌, ◌<◌, ◌≤◌, Bool, true, false, cond, not, ◌&&◌, eqb, ◌≢◌, List, [], ◌∷◌, ◌++◌, map, length, get_or, take, drop, set, sym, refl, ap, ◌∙◌, ap₂, add-mul, add-one, arith, below_more}
+use Rattle.std.proofs.Common.{◌≡◌, ℕ, zero, suc, ◌+◌, ◌-◌, ◌*◌, ◌<◌, ◌≤◌, Bool, true, false, cond, ◌&&◌, eqb, ◌≢◌, List, [], ◌∷◌, ◌++◌, length, get_or, take, drop, set, sym, refl, ap, ◌∙◌, ap₂, add-mul, add-one, arith, below_more}
 use Rattle.std.proofs.lemmas.List.{drop_more, drop_all, drop-drop, length-set, get_or-set_same, get_or-set_other}
 use Rattle.parts.specs.Sets.{minus}
 use Rattle.cubes.specs.Areas.{cube_at, cubes}
 use Rattle.cubes.specs.Cubes.{Cube, Cover, covers}
-use Rattle.cubes.proofs.Areas.{length-cubes, cubes_more, next_place}
+use Rattle.cubes.proofs.Areas.{cubes_more, next_place}
 use Rattle.moves.specs.Expand.{part_weight}
 
 -- ---- a cube within words

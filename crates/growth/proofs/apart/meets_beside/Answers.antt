@@ -6,10 +6,10 @@ use Rattle.cubes.specs.Cubes.{meets}
 use Rattle.cubes.proofs.Pairs.{empty_is, read_set}
 use Rattle.growth.proofs.Missed.{beside-passed, beside-step, beside_end}
 use Rattle.growth.proofs.apart.meets_beside.Goals as goal
-use Rattle.growth.proofs.apart.meets_beside.Goals.{then-i-k+else-is-empty, else-i-k}
+use Rattle.growth.proofs.apart.meets_beside.Goals.{then-i-k+else-is_empty, else-i-k}
 
-pub returns-then-is-empty : goal.returns-then-is-empty
-returns-then-is-empty g c =
+pub returns-then-is_empty : goal.returns-then-is_empty
+returns-then-is_empty g c =
     let s = g.P.Part.set in
     let i = c.loop-i.i in
     let k = c.args.k in
@@ -21,7 +21,7 @@ returns-then-is-empty g c =
     let hr : i < length c.args.r.now = omega arith in
     let lf : i < length A = rw length-map hf in
     let lr : i < length B = rw length-map hr in
-    let t : some (bit_and (s x) (s y)) ≡ false = ap not (empty_is _ (bit_and (s x) (s y)) _ _ c.common.ensures.value c.is-empty.ensures.value c.if-is-empty.true) in
+    let t : some (bit_and (s x) (s y)) ≡ false = ap not (empty_is _ (bit_and (s x) (s y)) _ _ c.common.ensures.value c.is_empty.ensures.value c.if-is_empty.true) in
     let ex = read_set s c.args.f.now i x hf c.index-f-i.is in
     let ey = read_set s c.args.r.now i y hr c.index-r-i.is in
     let q : some (bit_and (get_or A i 0) (get_or B i 0)) ≡ false = rw (ex, ey) t in
@@ -39,10 +39,10 @@ loop-i-preserved g c =
     let lf : i < length A = rw length-map hf in
     let lr : i < length B = rw length-map hr in
     elim c.if-i-k.branch [
-      | then-i-k+else-is-empty w ↦
+      | then-i-k+else-is_empty w ↦
           let x = w.index-f-i.result in
           let y = w.index-r-i.result in
-          let t : some (bit_and (s x) (s y)) ≡ true = ap not (empty_is _ (bit_and (s x) (s y)) _ _ w.common.ensures.value w.is-empty.ensures.value w.if-is-empty.false) in
+          let t : some (bit_and (s x) (s y)) ≡ true = ap not (empty_is _ (bit_and (s x) (s y)) _ _ w.common.ensures.value w.is_empty.ensures.value w.if-is_empty.false) in
           let ex = read_set s c.args.f.now i x hf w.index-f-i.is in
           let ey = read_set s c.args.r.now i y hr w.index-r-i.is in
           let q : some (bit_and (get_or A i 0) (get_or B i 0)) ≡ true = rw (ex, ey) t in

@@ -14,6 +14,6 @@ invariant-loop-i g l =
     let f = cube_at p at E in
     let U = take p (map s l.universe) in
     let R = cubes p l.offs (map s l.off) in
-    Grows p at U R (part_weight (over U f R) f (others at (cubes p l.n E))) E l.-i l.taken (map s l.solution)
+    Grows p at U R (part_weight (over U f R) f (others at (cubes p l.n E))) E l._i l.taken (map s l.solution)
     × (take (at * p) l.solution ≡ take (at * p) l.initial.solution)
     × (drop (at * p + p) l.solution ≡ drop (at * p + p) l.initial.solution)

@@ -1,4 +1,4 @@
-use Rattle.std.proofs.Common.{◌≡◌, ℕ, ◌+◌, ◌*◌, ◌%◌, ◌^◌, ◌<◌, ◌≤◌, ◌≢◌, map, length, get_or, take, sym, refl, ap, ◌∙◌, ap₂, arith, below_more}
+use Rattle.std.proofs.Common.{◌≡◌, ◌<◌, ◌≢◌, map, length, get_or, take, sym, ap, ◌∙◌, ap₂, arith, below_more}
 use Rattle.std.proofs.lemmas.List.{get_or-set_same, get_or-set_other, get_or-take, length-map, length-set}
 use Rattle.parts.specs.Sets.{minus}
 use Rattle.cubes.specs.Areas.{cubes}
@@ -20,14 +20,14 @@ loop-k-preserved g c =
     let h : k < length ws = omega (arith, c.loop-k.invariant.0, c.requires.few) in
     let hp : k < p = omega arith in
     let hu : k < length us = omega (arith, c.requires.whole) in
-    let here : c.word-of.result ≡ minus (get_or (take p (map s us)) k 0) (blocked k F R) =
-    c.word-of.ensures ∙ c.outside.ensures.value ∙ ap (minus (s u)) c.make.ensures.value
+    let here : c.word_of.result ≡ minus (get_or (take p (map s us)) k 0) (blocked k F R) =
+    c.word_of.ensures ∙ c.outside.ensures.value ∙ ap (minus (s u)) c.make.ensures.value
     ∙ minus_low g.P.Part.most (s u) _ (g.met.P.Part.below u)
-    ∙ ap₂ minus (sym (get_or-take p (map s us) k 0 hp ∙ read_set s us k u hu c.index-universe-k.is)) (c.blocked-words-blocked.ensures k hp) in (
-      length-set ws k c.word-of.result ∙ c.loop-k.invariant.0,
+    ∙ ap₂ minus (sym (get_or-take p (map s us) k 0 hp ∙ read_set s us k u hu c.index-universe-k.is)) (c.blocked_words-blocked.ensures k hp) in (
+      length-set ws k c.word_of.result ∙ c.loop-k.invariant.0,
       below_more _ _
-          (λ i l. let ne : i ≢ k = omega arith in get_or-set_other ws k i c.word-of.result 0 ne ∙ c.loop-k.invariant.1 i l)
-          (get_or-set_same ws k c.word-of.result 0 h ∙ here),
+          (λ i l. let ne : i ≢ k = omega arith in get_or-set_other ws k i c.word_of.result 0 ne ∙ c.loop-k.invariant.1 i l)
+          (get_or-set_same ws k c.word_of.result 0 h ∙ here),
     )
 
 pub returns : goal.returns

@@ -1,4 +1,4 @@
-use Rattle.std.proofs.Common.{◌≡◌, ◌+◌, ◌%◌, ◌^◌, ◌<◌, ◌≤◌, true, false, ◌&&◌, eqb, map, length, get_or, take, drop, sym, refl, ap, ◌∙◌, arith}
+use Rattle.std.proofs.Common.{◌≡◌, ◌+◌, ◌<◌, ◌≤◌, true, false, ◌&&◌, eqb, map, length, get_or, take, drop, sym, ap, ◌∙◌, arith}
 use Rattle.std.proofs.lemmas.List.{length-map}
 use Rattle.parts.specs.Sets.{minus}
 use Rattle.cubes.specs.Cubes.{covers}
@@ -7,8 +7,8 @@ use Rattle.growth.proofs.Blocked.{minus_low}
 use Rattle.growth.proofs.Weighed.{covers_front, within_step, within_end}
 use Rattle.growth.proofs.weigh.within_words.Goals as goal
 
-pub returns-then-not-is-empty : goal.returns-then-not-is-empty
-returns-then-not-is-empty g c =
+pub returns-then-not-is_empty : goal.returns-then-not-is_empty
+returns-then-not-is_empty g c =
     let s = g.P.Part.set in
     let i = c.loop-i.i in
     let x = c.index-cube-i.result in
@@ -17,7 +17,7 @@ returns-then-not-is-empty g c =
     let h : i < length W = omega arith in
     let t : eqb (minus (s x) (get_or W i 0)) 0 ≡ false =
     ap (λ n. eqb n 0) (sym (c.outside.ensures.value ∙ ap (minus (s x)) c.make.ensures.value ∙ minus_low g.P.Part.most (s x) (get_or W i 0) (g.met.P.Part.below x)))
-    ∙ sym c.is-empty.ensures.value ∙ c.if-not-is-empty.true in
+    ∙ sym c.is_empty.ensures.value ∙ c.if-not-is_empty.true in
     sym (within_step W C (drop (i + 1) C) i (s x) h (left-set s c.args.cube.now i x (omega arith) c.index-cube-i.is) ∙ ap (λ b. b && covers (drop (i + 1) W) (drop (i + 1) C)) t)
     ∙ c.loop-i.invariant ∙ sym (ap (λ n. covers (take n W) C) (sym (length-map c.args.cube.now s)) ∙ covers_front W C)
 
@@ -31,7 +31,7 @@ loop-i-preserved g c =
     let h : i < length W = omega arith in
     let t : eqb (minus (s x) (get_or W i 0)) 0 ≡ true =
     ap (λ n. eqb n 0) (sym (c.outside.ensures.value ∙ ap (minus (s x)) c.make.ensures.value ∙ minus_low g.P.Part.most (s x) (get_or W i 0) (g.met.P.Part.below x)))
-    ∙ sym c.is-empty.ensures.value ∙ c.if-not-is-empty.false in
+    ∙ sym c.is_empty.ensures.value ∙ c.if-not-is_empty.false in
     sym (within_step W C (drop (i + 1) C) i (s x) h (left-set s c.args.cube.now i x (omega arith) c.index-cube-i.is) ∙ ap (λ b. b && covers (drop (i + 1) W) (drop (i + 1) C)) t)
     ∙ c.loop-i.invariant
 

@@ -33,8 +33,8 @@ loop-i-init g c =
       (inl (omega arith, refl), ap (λ (x : Item). x.cube) (get_or-items p n at S C c.requires.place), omega (arith, length_items p n S C)),
     )
 
-pub move-item-requires : goal.move-item-requires
-move-item-requires g c =
+pub move_item-requires : goal.move_item-requires
+move_item-requires g c =
     let p = c.args.p in
     let n = c.args.n in
     let i = c.loop-i.i in
@@ -74,8 +74,8 @@ loop-i-preserved g c =
     elim c.if-stays.branch [
       | then-stays w ↦
           let t : stays G at i (get_or M i no_item).cube ≡ true = test ∙ w.if-stays.true in
-          let ys : c.if-stays.solution ≡ put_at p k (cube_at p i xs) xs = w.solution-is ∙ w.move-item.ensures.cube in
-          let D : c.if-stays.cards ≡ set C k (get_or C i blank) = w.cards-is ∙ w.move-item.ensures.card in
+          let ys : c.if-stays.solution ≡ put_at p k (cube_at p i xs) xs = w.solution-is ∙ w.move_item.ensures.cube in
+          let D : c.if-stays.cards ≡ set C k (get_or C i blank) = w.cards-is ∙ w.move_item.ensures.card in
           let o : c.if-stays.k ≡ k + 1 = w.k-is in
           let f : c.if-stays.lead ≡ cond (eqb i at) k lead = w.lead-is ∙ w.follow-lead.ensures in
           rw (ys, D, o, f, moved-items s p n xs C fits beside i k a b) (

@@ -10,4 +10,4 @@ returns g c =
     let to = c.args.to in
     let xs = c.args.solution.now in
     let e : from * p + p - from * p ≡ p = omega arith in
-    record { cube = c.copy-within.ensures.after ∙ ap (paste xs (to * p) (drop (from * p) xs)) e ∙ pasted p from to xs; card = refl }
+    record { cube = c.copy_within.ensures.after ∙ ap (paste xs (to * p) (drop (from * p) xs)) e ∙ pasted p from to xs; card = refl }

@@ -26,8 +26,8 @@ returns g c =
     let card : item_of (cube_at p at S) k ≡ placed f f.cube = ap (λ (x : Item). placed x x.cube) (sym is) in
     let marked : items_of p n S (set C at k) ≡ set L at (placed f f.cube) = items-card p n S C fits c.requires.beside at c.requires.place k ∙ ap (set L at) card in
     record {
-      items = c.close-up.ensures.items ∙ ap₂ (λ (G : Cube) (M : List Item). spared_but G at M) cube marked ∙ marked_only at L in-L;
-      most = c.close-up.ensures.most;
-      parts = c.close-up.ensures.parts;
-      cards = c.close-up.ensures.cards ∙ drop-set-lt n C at k c.requires.place;
+      items = c.close_up.ensures.items ∙ ap₂ (λ (G : Cube) (M : List Item). spared_but G at M) cube marked ∙ marked_only at L in-L;
+      most = c.close_up.ensures.most;
+      parts = c.close_up.ensures.parts;
+      cards = c.close_up.ensures.cards ∙ drop-set-lt n C at k c.requires.place;
     }

@@ -13,6 +13,6 @@ returns-else-i-at g c =
     let xs = c.args.solution.now in
     let S = map s xs in
     let t : eqb i c.args.at ≡ false = ne_eqb i c.args.at c.if-i-at.false in
-    let a : map s c.cube-at.result.now ≡ cube_at p c.args.lead S = ap (map s) c.cube-at.ensures ∙ map-cube_at s p c.args.lead xs in
-    let b : map s c.cube-at-else-i-at.result.now ≡ cube_at p i S = ap (map s) c.cube-at-else-i-at.ensures ∙ map-cube_at s p i xs in
+    let a : map s c.cube_at.result.now ≡ cube_at p c.args.lead S = ap (map s) c.cube_at.ensures ∙ map-cube_at s p c.args.lead xs in
+    let b : map s c.cube_at-else-i-at.result.now ≡ cube_at p i S = ap (map s) c.cube_at-else-i-at.ensures ∙ map-cube_at s p i xs in
     ap not (c.covers.ensures ∙ ap₂ covers a b) ∙ ap (λ q. q || not (covers (cube_at p c.args.lead S) (cube_at p i S))) (sym t)

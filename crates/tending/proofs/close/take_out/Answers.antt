@@ -1,12 +1,12 @@
-use Rattle.std.proofs.Common.{◌≡◌, ◌+◌, ◌-◌, ◌*◌, ◌<◌, ◌≤◌, map, length, set, sym, refl, ◌∙◌, arith}
+use Rattle.std.proofs.Common.{◌≡◌, ◌+◌, ◌-◌, ◌*◌, ◌<◌, ◌≤◌, map, length, sym, refl, ◌∙◌, arith}
 use Rattle.cubes.proofs.Areas.{place_below}
 use Rattle.tending.specs.Items.{items_of}
 use Rattle.tending.proofs.Places.{length_items, take_items}
 use Rattle.tending.proofs.Closing.{moved-items, moved-parts, moved-cards, shut_none, shut_more, shut_all}
 use Rattle.tending.proofs.close.take_out.Goals as goal
 
-pub move-item-requires : goal.move-item-requires
-move-item-requires g c =
+pub move_item-requires : goal.move_item-requires
+move_item-requires g c =
     let p = c.args.p in
     let n = c.args.n in
     let j = c.loop-j.j in
@@ -37,7 +37,7 @@ loop-j-preserved g c =
     let le : i ≤ j = omega arith in
     let in-L : j + 1 < length L = omega (arith, length_items p n (map s c.args.solution.now) c.args.cards.now) in
     let in-M : j + 1 < length M = omega (arith, length_items p n (map s xs) C) in
-    rw (c.move-item.ensures.cube, c.move-item.ensures.card, moved-items s p n xs C fits beside (j + 1) j a b) (
+    rw (c.move_item.ensures.cube, c.move_item.ensures.card, moved-items s p n xs C fits beside (j + 1) j a b) (
       shut_more i L M j le in-L in-M c.loop-j.invariant.0,
       moved-parts s p n xs C fits beside (j + 1) j a b ∙ c.loop-j.invariant.1,
       moved-cards s p n xs C fits beside (j + 1) j a b ∙ c.loop-j.invariant.2,

@@ -4,17 +4,17 @@ use Rattle.std.proofs.lemmas.Slice.{drop-put_mid}
 use Rattle.tending.proofs.Settled.{places_within, settled-parts}
 use Rattle.tending.proofs.settle.settle.Goals as goal
 
-pub overflow-mul-n : goal.overflow-mul-n
-overflow-mul-n g c = let h = places_within c.args.p c.args.n c.args.count c.requires.left in omega (arith, h)
+pub overflow_mul-n : goal.overflow_mul-n
+overflow_mul-n g c = let h = places_within c.args.p c.args.n c.args.count c.requires.left in omega (arith, h)
 
-pub offset-bounds-solution-n : goal.offset-bounds-solution-n
-offset-bounds-solution-n g c = let h = places_within c.args.p c.args.n c.args.count c.requires.left in search rules
+pub offset_bounds-solution-n : goal.offset_bounds-solution-n
+offset_bounds-solution-n g c = let h = places_within c.args.p c.args.n c.args.count c.requires.left in search rules
 
-pub slice-bounds-clear-count : goal.slice-bounds-clear-count
-slice-bounds-clear-count g c = let h = places_within c.args.p c.args.n c.args.count c.requires.left in search rules
+pub slice_bounds-clear-count : goal.slice_bounds-clear-count
+slice_bounds-clear-count g c = let h = places_within c.args.p c.args.n c.args.count c.requires.left in search rules
 
-pub slice-bounds-clear-start : goal.slice-bounds-clear-start
-slice-bounds-clear-start g c = let h = places_within c.args.p c.args.n c.args.count c.requires.left in search rules
+pub slice_bounds-clear-start : goal.slice_bounds-clear-start
+slice_bounds-clear-start g c = let h = places_within c.args.p c.args.n c.args.count c.requires.left in search rules
 
 pub returns : goal.returns
 returns g c =
@@ -28,6 +28,6 @@ returns g c =
     let size : length c.clear.new.area ≡ count * p - n * p = sym (length-map c.clear.new.area g.P.Part.set) ∙ ap length e ∙ length-replicate (count * p - n * p) 0 in
     record {
       cubes = settled-parts g.P.Part.set p n count xs c.clear.new.area c.requires.left c.requires.fits e;
-      cards = c.clear-cards.ensures;
+      cards = c.clear_cards.ensures;
       behind = drop-put_mid (n * p) (count * p - n * p) xs c.clear.new.area (count * p) (omega arith) (omega arith) size;
     }

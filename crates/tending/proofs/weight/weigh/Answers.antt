@@ -5,22 +5,22 @@ use Rattle.moves.specs.Items.{shared}
 use Rattle.tending.proofs.Weights.{size_at, weighed-step, weighed-end}
 use Rattle.tending.proofs.weight.weigh.Goals as goal
 
-pub cube-at-requires : goal.cube-at-requires
-cube-at-requires g c = omega (arith, place_below c.args.i c.args.n c.args.p c.requires.place)
+pub cube_at-requires : goal.cube_at-requires
+cube_at-requires g c = omega (arith, place_below c.args.i c.args.n c.args.p c.requires.place)
 
-pub cube-at-requires-in-loop-j : goal.cube-at-requires-in-loop-j
-cube-at-requires-in-loop-j g c = omega (arith, place_below c.loop-j.j c.args.n c.args.p c.loop-j-test.true)
+pub cube_at-requires-in-loop-j : goal.cube_at-requires-in-loop-j
+cube_at-requires-in-loop-j g c = omega (arith, place_below c.loop-j.j c.args.n c.args.p c.loop-j-test.true)
 
-pub shared-values-sum-requires : goal.shared-values-sum-requires
-shared-values-sum-requires g c = omega (arith, size_at c.args.p c.args.n c.args.i c.args.solution.now _ c.requires.place c.requires.fits c.cube-at.ensures)
+pub shared_values-sum-requires : goal.shared_values-sum-requires
+shared_values-sum-requires g c = omega (arith, size_at c.args.p c.args.n c.args.i c.args.solution.now _ c.requires.place c.requires.fits c.cube_at.ensures)
 
-few : (g : _) (c : goal.After-shared-values-sum g) → c.shared-values-sum.result ≤ 1024
+few : (g : _) (c : goal.After-shared_values-sum g) → c.shared_values-sum.result ≤ 1024
 few g c =
-    let e = size_at c.args.p c.args.n c.args.i c.args.solution.now _ c.requires.place c.requires.fits c.cube-at.ensures in
-    omega (arith, e, c.shared-values-sum.ensures.most)
+    let e = size_at c.args.p c.args.n c.args.i c.args.solution.now _ c.requires.place c.requires.fits c.cube_at.ensures in
+    omega (arith, e, c.shared_values-sum.ensures.most)
 
-pub overflow-add-sum : goal.overflow-add-sum
-overflow-add-sum g c = omega (arith, few g c, c.loop-j.invariant.1)
+pub overflow_add-sum : goal.overflow_add-sum
+overflow_add-sum g c = omega (arith, few g c, c.loop-j.invariant.1)
 
 pub loop-j-preserved : goal.loop-j-preserved
 loop-j-preserved g c =
@@ -30,9 +30,9 @@ loop-j-preserved g c =
     let j = c.loop-j.j in
     let xs = c.args.solution.now in
     let S = map s xs in
-    let a : map s c.cube-at.result.now ≡ cube_at p i S = ap (map s) c.cube-at.ensures ∙ map-cube_at s p i xs in
-    let b : map s c.cube-at-in-loop-j.result.now ≡ cube_at p j S = ap (map s) c.cube-at-in-loop-j.ensures ∙ map-cube_at s p j xs in
-    let one : c.shared-values-sum.result ≡ shared (cube_at p i S) (cube_at p j S) = c.shared-values-sum.ensures.value ∙ ap₂ shared a b in
+    let a : map s c.cube_at.result.now ≡ cube_at p i S = ap (map s) c.cube_at.ensures ∙ map-cube_at s p i xs in
+    let b : map s c.cube_at-in-loop-j.result.now ≡ cube_at p j S = ap (map s) c.cube_at-in-loop-j.ensures ∙ map-cube_at s p j xs in
+    let one : c.shared_values-sum.result ≡ shared (cube_at p i S) (cube_at p j S) = c.shared_values-sum.ensures.value ∙ ap₂ shared a b in
     let step = weighed-step p c.args.n j (cube_at p i S) S c.loop-j-test.true in
     (omega (arith, one, step, c.loop-j.invariant.0), omega (arith, few g c, c.loop-j.invariant.1))
 
