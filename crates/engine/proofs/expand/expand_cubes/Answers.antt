@@ -22,17 +22,17 @@ loop-i-init g c =
     let R = cubes p c.args.offs (map s c.args.off.now) in
     let act = expanding U R in
     let L = started (cubes p n (map s c.args.solution.now)) in
-    (ap (taking (n - 0) (g.O.Order.before c.args.order.now) act) c.start-cards.ensures.items ∙ turned_none (g.O.Order.before c.args.order.now) act n L, c.requires.apart, omega arith, refl, refl)
+    (ap (taking (n - 0) (g.O.Order.before c.args.order.now) act) c.start_cards.ensures.items ∙ turned_none (g.O.Order.before c.args.order.now) act n L, c.requires.apart, omega arith, refl, refl)
 
-pub expand-one-left-requires : goal.expand-one-left-requires
-expand-one-left-requires g c =
+pub expand_one-left-requires : goal.expand_one-left-requires
+expand_one-left-requires g c =
     record {
       few = c.requires.few;
       place = c.in-Some.ensures.first.found.0;
       whole = c.requires.whole;
       fits = c.requires.fits;
       room = omega (arith, c.requires.room, c.loop-i.auto.solution, mul-le-mul_right {m = c.loop-i.left} {n = c.args.n} c.args.p c.loop-i.invariant.2);
-      beside = omega (arith, c.requires.beside, c.loop-i.auto.cards, c.loop-i.invariant.2, c.start-cards.auto.cards);
+      beside = omega (arith, c.requires.beside, c.loop-i.auto.cards, c.loop-i.invariant.2, c.start_cards.auto.cards);
       apart = c.loop-i.invariant.1;
     }
 
@@ -41,7 +41,7 @@ loop-i-preserved g c =
     let s = g.P.Part.set in
     let p = c.args.p in
     let n = c.args.n in
-    let i = c.loop-i.-i in
+    let i = c.loop-i._i in
     let left = c.loop-i.left in
     let B = g.O.Order.before c.args.order.now in
     let U = take p (map s c.args.universe.now) in
@@ -52,15 +52,15 @@ loop-i-preserved g c =
     let K = c.loop-i.cards in
     let L = items_of p left S K in
     let less = mul-le-mul_right {m = left} {n = n} p c.loop-i.invariant.2 in
-    elim c.match-first-waiting.branch [
+    elim c.match-first_waiting.branch [
       | in-Some w ↦
           let first : first_of waits B L ≡ Some w.in-Some.at = sym (w.in-Some.ensures.value ∙ first_item p left S K B) in
           rw (w.solution-is, w.cards-is, w.left-is) (
-            turned-some B act n M i w.in-Some.at L (items_of p w.expand-one-left.result (map s w.expand-one-left.new.solution) w.expand-one-left.new.cards) c.loop-i-test.true first w.expand-one-left.ensures.items c.loop-i.invariant.0,
-            w.expand-one-left.ensures.apart,
-            omega (arith, w.expand-one-left.ensures.most, c.loop-i.invariant.2),
-            stays_behind (left * p) (n * p) w.expand-one-left.new.solution c.loop-i.solution less w.expand-one-left.ensures.parts ∙ c.loop-i.invariant.3,
-            stays_behind left n w.expand-one-left.new.cards K c.loop-i.invariant.2 w.expand-one-left.ensures.cards ∙ c.loop-i.invariant.4,
+            turned-some B act n M i w.in-Some.at L (items_of p w.expand_one-left.result (map s w.expand_one-left.new.solution) w.expand_one-left.new.cards) c.loop-i-test.true first w.expand_one-left.ensures.items c.loop-i.invariant.0,
+            w.expand_one-left.ensures.apart,
+            omega (arith, w.expand_one-left.ensures.most, c.loop-i.invariant.2),
+            stays_behind (left * p) (n * p) w.expand_one-left.new.solution c.loop-i.solution less w.expand_one-left.ensures.parts ∙ c.loop-i.invariant.3,
+            stays_behind left n w.expand_one-left.new.cards K c.loop-i.invariant.2 w.expand_one-left.ensures.cards ∙ c.loop-i.invariant.4,
           )
       | in_default w ↦
           let first : first_of waits B L ≡ None = sym (w.in_default.ensures.value ∙ first_item p left S K B) in
@@ -80,10 +80,10 @@ returns g c =
     let C = cubes p n (map s c.args.solution.now) in
     let S = map s c.loop-i.solution in
     let L = items_of p left S c.loop-i.cards in
-    let all : L ≡ taking n B (expanding U R) (started C) = turned-all B (expanding U R) n (started C) c.loop-i.-i L c.loop-i-test.false c.loop-i.invariant.0 in
+    let all : L ≡ taking n B (expanding U R) (started C) = turned-all B (expanding U R) n (started C) c.loop-i._i L c.loop-i-test.false c.loop-i.invariant.0 in
     record {
       list = sym (cubes_items p left S c.loop-i.cards) ∙ ap cubes_of all ∙ expand_is B U R n C (length-cubes p n (map s c.args.solution.now));
       most = c.loop-i.invariant.2;
       parts = c.loop-i.invariant.3;
-      cards = c.loop-i.invariant.4 ∙ ap (drop n) c.start-cards.ensures.cards ∙ started_behind n C c.args.cards.now (length-cubes p n (map s c.args.solution.now));
+      cards = c.loop-i.invariant.4 ∙ ap (drop n) c.start_cards.ensures.cards ∙ started_behind n C c.args.cards.now (length-cubes p n (map s c.args.solution.now));
     }

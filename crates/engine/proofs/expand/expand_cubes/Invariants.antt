@@ -15,7 +15,7 @@ invariant-loop-i g l =
     let U = take p (map s l.universe) in
     let R = cubes p l.offs (map s l.off) in
     let S = map s l.solution in
-    Turned (g.O.Order.before l.order) (expanding U R) n (started (cubes p n (map s l.initial.solution))) l.-i (items_of p l.left S l.cards)
+    Turned (g.O.Order.before l.order) (expanding U R) n (started (cubes p n (map s l.initial.solution))) l._i (items_of p l.left S l.cards)
     × Apart R (cubes p l.left S)
     × (l.left ≤ n)
     × (drop (n * p) l.solution ≡ drop (n * p) l.initial.solution)

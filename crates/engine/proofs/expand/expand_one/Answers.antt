@@ -48,13 +48,13 @@ returns g c =
     let t : touches (cube_at p at S) R ≡ false = ap (λ f. touches f R) (sym (get_or-cubes p n at S c.requires.place)) ∙ apart-at R C at h c.requires.apart in
     let below = place_below at n p c.requires.place in
     let size : length (cube_at p at S) ≡ p = length-cube_at p at S (omega arith) in
-    let all = c.remove-covered.ensures.items ∙ ap (λ Y. only_at at (items_of p n Y K)) c.grow.ensures.sets ∙ grown-items p n S K fits c.requires.beside U R at c.requires.place wR t size in
-    let T = map s c.remove-covered.new.solution in
-    let r = c.remove-covered.result in
+    let all = c.remove_covered.ensures.items ∙ ap (λ Y. only_at at (items_of p n Y K)) c.grow.ensures.sets ∙ grown-items p n S K fits c.requires.beside U R at c.requires.place wR t size in
+    let T = map s c.remove_covered.new.solution in
+    let r = c.remove_covered.result in
     record {
       items = all;
-      most = c.remove-covered.ensures.most;
-      apart = subst (Apart R) (sym (sym (cubes_items p r T c.remove-covered.new.cards) ∙ ap cubes_of all)) (grown-apart p n S K fits c.requires.beside U R at c.requires.place wR c.requires.apart);
-      parts = c.remove-covered.ensures.parts ∙ stays_behind (at * p + p) (n * p) c.grow.new.solution xs below c.grow.ensures.behind;
-      cards = c.remove-covered.ensures.cards;
+      most = c.remove_covered.ensures.most;
+      apart = subst (Apart R) (sym (sym (cubes_items p r T c.remove_covered.new.cards) ∙ ap cubes_of all)) (grown-apart p n S K fits c.requires.beside U R at c.requires.place wR c.requires.apart);
+      parts = c.remove_covered.ensures.parts ∙ stays_behind (at * p + p) (n * p) c.grow.new.solution xs below c.grow.ensures.behind;
+      cards = c.remove_covered.ensures.cards;
     }

@@ -5,8 +5,8 @@ use Rattle.engine.specs.Foreign.{first_met, foreign_verdict}
 use Rattle.engine.proofs.Meetings.{cube_test, foreign-here, foreign-later, foreign-none, none_foreign}
 use Rattle.engine.proofs.foreign.check_foreign.Goals as goal
 
-pub cube-at-requires : goal.cube-at-requires
-cube-at-requires g c = omega (arith, place_below c.loop-i.i c.args.n c.args.p c.loop-i-test.true)
+pub cube_at-requires : goal.cube_at-requires
+cube_at-requires g c = omega (arith, place_below c.loop-i.i c.args.n c.args.p c.loop-i-test.true)
 
 pub returns-in-Some : goal.returns-in-Some
 returns-in-Some g c =
@@ -14,7 +14,7 @@ returns-in-Some g c =
     let xs = c.args.solution.now in
     let R = cubes c.args.p c.args.offs (map s c.args.off.now) in
     let C = cubes c.args.p c.args.n (map s xs) in
-    let test = cube_test s c.args.p c.args.n c.loop-i.i xs c.cube-at.result.now (λ f. first_met 0 f R) (Some c.in-Some.j) c.loop-i-test.true c.cube-at.ensures c.in-Some.ensures in
+    let test = cube_test s c.args.p c.args.n c.loop-i.i xs c.cube_at.result.now (λ f. first_met 0 f R) (Some c.in-Some.j) c.loop-i-test.true c.cube_at.ensures c.in-Some.ensures in
     record {
       value = foreign-here R C (foreign_verdict 0 R C) c.loop-i.i c.loop-i.invariant c.in-Some.j (omega (arith, length-cubes c.args.p c.args.n (map s xs))) test;
       apart = λ e. absurd (let z : ◌≡◌ {A = ℕ} 0 1 = cc in omega arith);
@@ -26,7 +26,7 @@ loop-i-preserved g c =
     let xs = c.args.solution.now in
     let R = cubes c.args.p c.args.offs (map s c.args.off.now) in
     let C = cubes c.args.p c.args.n (map s xs) in
-    let test = cube_test s c.args.p c.args.n c.loop-i.i xs c.cube-at.result.now (λ f. first_met 0 f R) None c.loop-i-test.true c.cube-at.ensures c.in_default.ensures in
+    let test = cube_test s c.args.p c.args.n c.loop-i.i xs c.cube_at.result.now (λ f. first_met 0 f R) None c.loop-i-test.true c.cube_at.ensures c.in_default.ensures in
     foreign-later R C (foreign_verdict 0 R C) c.loop-i.i c.loop-i.invariant (omega (arith, length-cubes c.args.p c.args.n (map s xs))) test
 
 pub returns : goal.returns

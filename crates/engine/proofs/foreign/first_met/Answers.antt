@@ -6,8 +6,8 @@ use Rattle.engine.specs.Foreign.{first_met}
 use Rattle.engine.proofs.Meetings.{cube_test, met-here, met-later, met-none}
 use Rattle.engine.proofs.foreign.first_met.Goals as goal
 
-pub cube-at-requires : goal.cube-at-requires
-cube-at-requires g c = omega (arith, place_below c.loop-j.j c.args.offs c.args.p c.loop-j-test.true)
+pub cube_at-requires : goal.cube_at-requires
+cube_at-requires g c = omega (arith, place_below c.loop-j.j c.args.offs c.args.p c.loop-j-test.true)
 
 pub returns-then-meets : goal.returns-then-meets
 returns-then-meets g c =
@@ -15,7 +15,7 @@ returns-then-meets g c =
     let off = c.args.off.now in
     let f = map s c.args.cube.now in
     let R = cubes c.args.p c.args.offs (map s off) in
-    let test = cube_test s c.args.p c.args.offs c.loop-j.j off c.cube-at.result.now (meets f) c.meets.result c.loop-j-test.true c.cube-at.ensures c.meets.ensures in
+    let test = cube_test s c.args.p c.args.offs c.loop-j.j off c.cube_at.result.now (meets f) c.meets.result c.loop-j-test.true c.cube_at.ensures c.meets.ensures in
     met-here f R (first_met 0 f R) c.loop-j.j c.loop-j.invariant (omega (arith, length-cubes c.args.p c.args.offs (map s off))) (test ∙ c.if-meets.true)
 
 pub loop-j-preserved : goal.loop-j-preserved
@@ -24,7 +24,7 @@ loop-j-preserved g c =
     let off = c.args.off.now in
     let f = map s c.args.cube.now in
     let R = cubes c.args.p c.args.offs (map s off) in
-    let test = cube_test s c.args.p c.args.offs c.loop-j.j off c.cube-at.result.now (meets f) c.meets.result c.loop-j-test.true c.cube-at.ensures c.meets.ensures in
+    let test = cube_test s c.args.p c.args.offs c.loop-j.j off c.cube_at.result.now (meets f) c.meets.result c.loop-j-test.true c.cube_at.ensures c.meets.ensures in
     met-later f R (first_met 0 f R) c.loop-j.j c.loop-j.invariant (omega (arith, length-cubes c.args.p c.args.offs (map s off))) (test ∙ c.if-meets.false)
 
 pub returns : goal.returns
