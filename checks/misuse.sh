@@ -1,29 +1,23 @@
 #!/usr/bin/env bash
-# Misuses that must not compile. Each file of checks/misuse but `control` changes one line of the control program: the control must compile, and
-# the changed program must be refused with the error that the file names. All is done on a copy outside the tree; nothing is proved there.
+# Misuses that must not compile. Each file of checks/misuse but `control` changes one line of the control program: the control must compile
+# and run, and the changed program must be refused with the error that the file names. All is done on a copy outside the tree; nothing is
+# proved there.
 set -euo pipefail
 top=$(cd "$(dirname "$0")/.." && pwd)
-kit=$(dirname "$(dirname "$(rt doc)")")
 copy=$(mktemp -d)
 trap 'rm -rf "$copy"' EXIT
-cp -r "$top/crates" "$copy/crates"
-cd "$copy"
-mkdir program
-libs=()
-while IFS=: read -r name used; do
-    libs+=(--lib "$name:$(echo $used | tr ' ' ,)=$kit/$name/src/lib.rt")
-done < "$kit/libs.txt"
-while IFS=: read -r name _; do
-    case "$name" in ''|'#'*) continue ;; esac
-    [ -f "crates/$name/src/lib.rt" ] && libs+=(--lib "$name=crates/$name/src/lib.rt")
-done < "$top/crates.txt"
+mkdir "$copy/crates"
+(cd "$top" && tar c --exclude=out crates crates.txt) | tar x -C "$copy"
+echo "misuse: parts session table" >> "$copy/crates.txt"
+mkdir -p "$copy/crates/misuse/src"
+cd "$copy/crates/misuse"
 
-compiles() { "$kit/bin/rattle-print-mir" program/main.rt --crate-name misuse "${libs[@]}" > /dev/null 2> misuse.log; }
+compiles() { rt try < /dev/null > "$copy/misuse.log" 2>&1; }
 
-cp "$top/checks/misuse/control.txt" program/main.rt
+cp "$top/checks/misuse/control.txt" src/main.rt
 if ! compiles; then
     echo "misuse: the control program does not compile:"
-    cat misuse.log
+    cat "$copy/misuse.log"
     exit 1
 fi
 count=0
@@ -33,7 +27,7 @@ for file in "$top"/checks/misuse/*.txt; do
     old=$(sed -n 's/^old: //p' "$file")
     new=$(sed -n 's/^new: //p' "$file")
     says=$(sed -n 's/^says: //p' "$file")
-    OLD=$old NEW=$new python3 - "$top/checks/misuse/control.txt" > program/main.rt <<'PY'
+    OLD=$old NEW=$new python3 - "$top/checks/misuse/control.txt" > src/main.rt <<'PY'
 import os, sys
 text = open(sys.argv[1]).read()
 old = os.environ["OLD"]
@@ -45,9 +39,9 @@ PY
         echo "misuse: $name compiles, and must not"
         exit 1
     fi
-    if ! grep -qF "$says" misuse.log; then
+    if ! grep -qF "$says" "$copy/misuse.log"; then
         echo "misuse: $name is refused, but not with $says:"
-        cat misuse.log
+        cat "$copy/misuse.log"
         exit 1
     fi
     count=$((count + 1))
