@@ -1,11 +1,11 @@
 -- One cube of an area is grown, and the others that it covers go: what becomes of the items.
-use Rattle.std.proofs.Common.{◌≡◌, ℕ, zero, suc, ◌+◌, ◌*◌, ◌<◌, ◌≤◌, false, List, [], ◌∷◌, ◌++◌, length, get_or, take, drop, set, sym, refl, ap, ◌∙◌, subst, ap₂, add-one, arith}
+use Rattle.std.proofs.Common.{◌≡◌, ℕ, zero, suc, ◌+◌, ◌*◌, ◌<◌, ◌≤◌, false, List, [], ◌∷◌, ◌++◌, length, get_or, take, drop, set, sym, ap, ◌∙◌, subst, ap₂, arith}
 use lib.Seq.{set-get_or}
 use Rattle.std.specs.List.{AllByRecursion}
 use Rattle.std.proofs.lemmas.List.{take-map, drop-map, take-set-le, drop-set-lt, get_or-set_same}
 use Rattle.cubes.specs.Areas.{cube_at, cubes, put_at}
 use Rattle.cubes.specs.Cubes.{Cube, Cover, Wide}
-use Rattle.cubes.proofs.Areas.{wide_cubes, length-cubes}
+use Rattle.cubes.proofs.Areas.{wide_cubes}
 use Rattle.growth.specs.Others.{others}
 use Rattle.moves.specs.Expand.{grown, spared, put_grown, expanding}
 use Rattle.moves.specs.Items.{Item, no_item, cubes_of, placed}
@@ -13,7 +13,7 @@ use Rattle.moves.specs.Sound.{Apart}
 use Rattle.moves.specs.Widen.{touches}
 use Rattle.moves.proofs.Expanded.{expanding-safe}
 use Rattle.moves.proofs.Growth.{Safe, grown-safe}
-use Rattle.moves.proofs.Taking.{all_both, split}
+use Rattle.moves.proofs.Taking.{split}
 use Rattle.table.specs.declared.card.Card.{Card}
 use Rattle.table.specs.Cards.{blank}
 use Rattle.tending.specs.Items.{item_of, items_of, only_at}

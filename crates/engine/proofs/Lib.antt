@@ -1,3 +1,4 @@
 mod Grown
 mod Meetings
+pub mod Settling
 mod Turns

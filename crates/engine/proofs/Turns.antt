@@ -1,7 +1,7 @@
 -- Cubes taken one after the other: the cards in the area as the items of the definition.
-use Rattle.std.proofs.Common.{◌≡◌, ℕ, suc, ◌+◌, ◌-◌, ◌<◌, ◌≤◌, Bool, not, List, length, get_or, take, drop, Some, None, Option, sym, refl, ap, ◌∙◌, arith}
+use Rattle.std.proofs.Common.{◌≡◌, ℕ, suc, ◌+◌, ◌-◌, ◌<◌, ◌≤◌, List, length, get_or, take, drop, Some, None, sym, ap, ◌∙◌, arith}
 use Rattle.std.proofs.lemmas.List.{drop-drop, drop_all, drop-append-le, length-map}
-use Rattle.cubes.specs.Areas.{cube_at, overlay}
+use Rattle.cubes.specs.Areas.{overlay}
 use Rattle.cubes.specs.Cubes.{Cube, Cover}
 use Rattle.moves.specs.Calls.{expand}
 use Rattle.moves.specs.Expand.{expanding}
@@ -13,7 +13,7 @@ use Rattle.orders.specs.Searches as cards
 use Rattle.orders.proofs.Bests.{best_alike}
 use Rattle.table.specs.declared.card.Card.{Card}
 use Rattle.table.specs.Cards.{blank}
-use Rattle.tending.specs.Items.{item_of, items_of, card_of, cards_of}
+use Rattle.tending.specs.Items.{items_of, card_of, cards_of}
 use Rattle.tending.proofs.Places.{length_items, get_or-items}
 
 -- the first card not yet taken is that of the first item

@@ -1,15 +1,11 @@
-use Rattle.std.proofs.Common.{◌≡◌, ℕ, ◌+◌, ◌-◌, ◌*◌, ◌<◌, ◌≤◌, List, map, length, take, drop, Some, None, sym, refl, ap, ◌∙◌, subst, ap₂, mul-le-mul_right, arith}
-use Rattle.std.proofs.lemmas.List.{length-map}
+use Rattle.std.proofs.Common.{◌≡◌, ◌-◌, ◌*◌, map, take, drop, Some, None, sym, refl, ap, ◌∙◌, mul-le-mul_right, arith}
 use Rattle.cubes.specs.Areas.{cubes}
 use Rattle.cubes.proofs.Areas.{length-cubes}
-use Rattle.moves.specs.Calls.{expand}
 use Rattle.moves.specs.Expand.{expanding}
-use Rattle.moves.specs.Items.{Item, cubes_of, started, taking, first_of, waits}
-use Rattle.moves.specs.Sound.{Apart}
-use Rattle.table.specs.declared.card.Card.{Card}
+use Rattle.moves.specs.Items.{cubes_of, started, taking, first_of, waits}
 use Rattle.tending.specs.Items.{items_of}
 use Rattle.tending.proofs.Places.{cubes_items}
-use Rattle.engine.proofs.Turns.{Turned, first_item, turned_none, turned-some, turned-skip, turned-all, stays_behind, started_behind, expand_is}
+use Rattle.engine.proofs.Turns.{first_item, turned_none, turned-some, turned-skip, turned-all, stays_behind, started_behind, expand_is}
 use Rattle.engine.proofs.expand.expand_cubes.Goals as goal
 use Rattle.engine.proofs.expand.expand_cubes.Goals.{in-Some, in_default}
 

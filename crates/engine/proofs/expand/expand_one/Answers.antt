@@ -1,9 +1,9 @@
-use Rattle.std.proofs.Common.{◌≡◌, ◌+◌, ◌*◌, ◌<◌, ◌≤◌, false, map, length, take, drop, sym, ap, ◌∙◌, subst, arith}
+use Rattle.std.proofs.Common.{◌≡◌, ◌+◌, ◌*◌, ◌<◌, ◌≤◌, false, map, length, take, sym, ap, ◌∙◌, subst, arith}
 use Rattle.std.proofs.lemmas.List.{length-map}
 use Rattle.cubes.specs.Areas.{cube_at, cubes}
-use Rattle.cubes.specs.Cubes.{Cube, Cover, Wide}
+use Rattle.cubes.specs.Cubes.{Wide}
 use Rattle.cubes.proofs.Areas.{place_below, length-cube_at, length-cubes, get_or-cubes, wide_cubes}
-use Rattle.moves.specs.Items.{Item, cubes_of}
+use Rattle.moves.specs.Items.{cubes_of}
 use Rattle.moves.specs.Sound.{Apart}
 use Rattle.moves.specs.Widen.{touches}
 use Rattle.tending.specs.Items.{items_of, only_at}

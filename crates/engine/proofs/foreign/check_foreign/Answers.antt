@@ -1,4 +1,4 @@
-use Rattle.std.proofs.Common.{◌≡◌, ℕ, map, length, Some, None, sym, ◌∙◌, arith}
+use Rattle.std.proofs.Common.{◌≡◌, ℕ, map, Some, None, sym, arith}
 use Rattle.cubes.specs.Areas.{cubes}
 use Rattle.cubes.proofs.Areas.{place_below, length-cubes}
 use Rattle.engine.specs.Foreign.{first_met, foreign_verdict}

@@ -1,4 +1,4 @@
-use Rattle.std.proofs.Common.{map, length, ◌∙◌, arith}
+use Rattle.std.proofs.Common.{map, ◌∙◌, arith}
 use Rattle.cubes.specs.Areas.{cubes}
 use Rattle.cubes.specs.Cubes.{meets}
 use Rattle.cubes.proofs.Areas.{place_below, length-cubes}
