@@ -1,4 +1,4 @@
 mod Grown
 mod Meetings
-pub mod Settling
+mod Settling
 mod Turns
