@@ -46,16 +46,16 @@ module _ {X : Type 0} (p i : ℕ) (c xs : List X) (fits : i * p + p ≤ length x
   pub drop-put : (n : ℕ) → i * p + p ≤ n → drop n (put_at p i c xs) ≡ drop n xs
   drop-put n h = drop-put_mid (i * p) p xs c n h (omega arith) size
 
-  pub cubeAt-put : cube_at p i (put_at p i c xs) ≡ c
-  cubeAt-put =
+  pub cube_at-put : cube_at p i (put_at p i c xs) ≡ c
+  cube_at-put =
       let front : length (take (i * p) xs) ≡ i * p = simp length-take (omega arith) in
       ap (take p) (drop_at (take (i * p) xs) (c ++ drop p (drop (i * p) xs)) (i * p) front) ∙ take_at c (drop p (drop (i * p) xs)) p size
 
-  pub cubeAt-put-above : (j : ℕ) → i < j → cube_at p j (put_at p i c xs) ≡ cube_at p j xs
-  cubeAt-put-above j h = ap (take p) (drop-put (j * p) (place_below i j p h))
+  pub cube_at-put_above : (j : ℕ) → i < j → cube_at p j (put_at p i c xs) ≡ cube_at p j xs
+  cube_at-put_above j h = ap (take p) (drop-put (j * p) (place_below i j p h))
 
-  pub cubeAt-put-below : (j : ℕ) → j < i → cube_at p j (put_at p i c xs) ≡ cube_at p j xs
-  cubeAt-put-below j h = cube_at-front p j (i * p) (put_at p i c xs) xs (place_below j i p h) (take_put (i * p) (omega arith))
+  pub cube_at-put_below : (j : ℕ) → j < i → cube_at p j (put_at p i c xs) ≡ cube_at p j xs
+  cube_at-put_below j h = cube_at-front p j (i * p) (put_at p i c xs) xs (place_below j i p h) (take_put (i * p) (omega arith))
 
 -- a write to the part of an area that is cube i: its cube is made another by q
 pub put_part : {X : Type 0} (s : X → ℕ) (p i n : ℕ) (xs ys : List X) (q : List ℕ → List ℕ) → n ≡ p → map s ys ≡ q (map s (take n (drop (i * p) xs))) → map s (put_mid (i * p) n xs ys) ≡ put_at p i (q (cube_at p i (map s xs))) (map s xs)
@@ -103,7 +103,7 @@ cubes_front {X} p (suc n) xs ys e =
 pub cubes-put : {X : Type 0} (p n : ℕ) (c xs : List X) → n * p + p ≤ length xs → length c ≡ p → cubes p (n + 1) (put_at p n c xs) ≡ cubes p n xs ++ (c ∷ [])
 cubes-put p n c xs h e =
     let same = cubes_front p n (put_at p n c xs) xs (take_put p n c xs h e (n * p) (omega arith)) in
-    let here = cubeAt-put p n c xs h e in
+    let here = cube_at-put p n c xs h e in
     cubes_more p n (put_at p n c xs) ∙ rw (same, here)
 
 -- ---- cubes written one after another

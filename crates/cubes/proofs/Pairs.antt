@@ -31,11 +31,11 @@ module _ (F : List ℕ → List ℕ → Bool) (test : ℕ → ℕ → Bool) (ste
   pair_step = rw (left-set s xs i x hx ex, left-set s ys i y hy ey) (step (s x) (s y) (drop (i + 1) (map s xs)) (drop (i + 1) (map s ys)))
 
   -- where F of what is left is r, by the test of the two parts that are next
-  pub pair-true : test (s x) (s y) ≡ true → (r : Bool) → F (drop i (map s xs)) (drop i (map s ys)) ≡ r → F (drop (i + 1) (map s xs)) (drop (i + 1) (map s ys)) ≡ r
-  pair-true t r inv = sym (pair_step ∙ ap (λ b. b && F (drop (i + 1) (map s xs)) (drop (i + 1) (map s ys))) t) ∙ inv
+  pub pair_true : test (s x) (s y) ≡ true → (r : Bool) → F (drop i (map s xs)) (drop i (map s ys)) ≡ r → F (drop (i + 1) (map s xs)) (drop (i + 1) (map s ys)) ≡ r
+  pair_true t r inv = sym (pair_step ∙ ap (λ b. b && F (drop (i + 1) (map s xs)) (drop (i + 1) (map s ys))) t) ∙ inv
 
-  pub pair-false : test (s x) (s y) ≡ false → (r : Bool) → F (drop i (map s xs)) (drop i (map s ys)) ≡ r → false ≡ r
-  pair-false t r inv = sym (pair_step ∙ ap (λ b. b && F (drop (i + 1) (map s xs)) (drop (i + 1) (map s ys))) t) ∙ inv
+  pub pair_false : test (s x) (s y) ≡ false → (r : Bool) → F (drop i (map s xs)) (drop i (map s ys)) ≡ r → false ≡ r
+  pair_false t r inv = sym (pair_step ∙ ap (λ b. b && F (drop (i + 1) (map s xs)) (drop (i + 1) (map s ys))) t) ∙ inv
 
 -- past the shorter of two cubes
 pub pair_none : (F : List ℕ → List ℕ → Bool) → ((B : List ℕ) → F [] B ≡ true) → ((A : List ℕ) → F A [] ≡ true) → {X : Type 0} (s : X → ℕ) (xs ys : List X) (i : ℕ) → min (length xs) (length ys) ≤ i → (r : Bool) → F (drop i (map s xs)) (drop i (map s ys)) ≡ r → true ≡ r

@@ -17,7 +17,7 @@ use Rattle.moves.proofs.Taking.{split}
 use Rattle.table.specs.declared.card.Card.{Card}
 use Rattle.table.specs.Cards.{blank}
 use Rattle.tending.specs.Items.{item_of, items_of, only_at}
-use Rattle.tending.proofs.Places.{length_items, get_or-items, cubes_items, items-put}
+use Rattle.tending.proofs.Places.{length_items, get_or-items, cubes_items, items_put}
 
 -- the cubes of the items are safe where the cubes are
 pub safe_items : (p : ℕ) (R : Cover) (L : List Item) → Wide p (cubes_of L) → Apart R (cubes_of L) → AllByRecursion (λ i. Safe p R i.cube) L
@@ -50,11 +50,11 @@ module _ (p n : ℕ) (S : List ℕ) (K : List Card) (fits : n * p ≤ length S) 
   abbrev f : Item
   f = get_or L at no_item
 
-  f-is : f ≡ item_of (cube_at p at S) (get_or K at blank)
-  f-is = get_or-items p n at S K h
+  f_is : f ≡ item_of (cube_at p at S) (get_or K at blank)
+  f_is = get_or-items p n at S K h
 
-  in-L : at < length L
-  in-L = omega (arith, length_items p n S K)
+  in_L : at < length L
+  in_L = omega (arith, length_items p n S K)
 
   -- with the cube G written at its place, the others go that G covers
   put_only : (G : Cube) → length G ≡ p → only_at at (items_of p n (put_at p at G S) K) ≡ put_grown (take at L) f (drop (suc at) L) G
@@ -62,22 +62,22 @@ module _ (p n : ℕ) (S : List ℕ) (K : List Card) (fits : n * p ≤ length S) 
       let k = get_or K at blank in
       let x = item_of G k in
       let same : items_of p n (put_at p at G S) K ≡ set L at x =
-      ap (items_of p n (put_at p at G S)) (sym (set-get_or K at blank)) ∙ items-put p n S K fits beside at h G k size in
-      let y : placed x G ≡ placed f G = ap (λ (i : Item). placed i G) (sym f-is) in
-      let l = in-L in
+      ap (items_of p n (put_at p at G S)) (sym (set-get_or K at blank)) ∙ items_put p n S K fits beside at h G k size in
+      let y : placed x G ≡ placed f G = ap (λ (i : Item). placed i G) (sym f_is) in
+      let l = in_L in
       ap (only_at at) same
       ∙ rw (take-set-le at L at x (omega arith), get_or-set_same L at x no_item l, drop-set-lt (suc at) L at x (omega arith)) (ap (λ (z : Item). spared G (take at L) ++ z ∷ spared G (drop (suc at) L)) y)
 
-  pub grown-items : Wide p R → touches (cube_at p at S) R ≡ false → length (cube_at p at S) ≡ p
+  pub grown_items : Wide p R → touches (cube_at p at S) R ≡ false → length (cube_at p at S) ≡ p
       → only_at at (items_of p n (put_at p at (grown U R (cube_at p at S) (others at (cubes p n S))) S) K) ≡ expanding U R (take at L) f (drop (suc at) L)
-  grown-items w t e =
+  grown_items w t e =
       let G = grown U R (cube_at p at S) (others at (cubes p n S)) in
       put_only G (grown-safe p U R (cube_at p at S) (others at (cubes p n S)) w (e, t)).0
       ∙ ap (put_grown (take at L) f (drop (suc at) L))
-      (ap₂ (λ (c : Cube) (C : Cover). grown U R c C) (ap (λ (i : Item). i.cube) (sym f-is)) (sym (others_items p n S K at)))
+      (ap₂ (λ (c : Cube) (C : Cover). grown U R c C) (ap (λ (i : Item). i.cube) (sym f_is)) (sym (others_items p n S K at)))
 
   pub grown-apart : Wide p R → Apart R (cubes p n S) → Apart R (cubes_of (expanding U R (take at L) f (drop (suc at) L)))
   grown-apart w a =
       let P : Item → Type 0 = λ i. Safe p R i.cube in
       let all : AllByRecursion P L = safe_items p R L (rw (cubes_items p n S K) (wide_cubes p n S fits)) (rw (cubes_items p n S K) a) in
-      items_safe p R (expanding U R (take at L) f (drop (suc at) L)) (expanding-safe p U R (take at L) f (drop (suc at) L) w (subst (AllByRecursion P) (split at L in-L) all))
+      items_safe p R (expanding U R (take at L) f (drop (suc at) L)) (expanding-safe p U R (take at L) f (drop (suc at) L) w (subst (AllByRecursion P) (split at L in_L) all))

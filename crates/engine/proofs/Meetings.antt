@@ -18,32 +18,32 @@ cube_test s p n j xs c test r h e f = ap test (get_or-cubes p n j (map s xs) h �
 -- ---- the off cubes from number j on, where those and the ones before come to o
 
 module _ (f : Cube) (R : Cover) (o : Option ℕ) (j : ℕ) (inv : first_met j f (drop j R) ≡ o) where
-  met-step : j < length R → first_met j f (drop j R) ≡ cond (meets f (get_or R j [])) (Some j) (first_met (j + 1) f (drop (j + 1) R))
-  met-step h = rw (drop_more R j [] h, add-one)
+  met_step : j < length R → first_met j f (drop j R) ≡ cond (meets f (get_or R j [])) (Some j) (first_met (j + 1) f (drop (j + 1) R))
+  met_step h = rw (drop_more R j [] h, add-one)
 
-  pub met-here : j < length R → meets f (get_or R j []) ≡ true → Some j ≡ o
-  met-here h m = sym (met-step h ∙ rw m) ∙ inv
+  pub met_here : j < length R → meets f (get_or R j []) ≡ true → Some j ≡ o
+  met_here h m = sym (met_step h ∙ rw m) ∙ inv
 
-  pub met-later : j < length R → meets f (get_or R j []) ≡ false → first_met (j + 1) f (drop (j + 1) R) ≡ o
-  met-later h m = sym (met-step h ∙ rw m) ∙ inv
+  pub met_later : j < length R → meets f (get_or R j []) ≡ false → first_met (j + 1) f (drop (j + 1) R) ≡ o
+  met_later h m = sym (met_step h ∙ rw m) ∙ inv
 
-  pub met-none : length R ≤ j → None ≡ o
-  met-none h = sym (ap (first_met j f) (drop_all j R h)) ∙ inv
+  pub met_none : length R ≤ j → None ≡ o
+  met_none h = sym (ap (first_met j f) (drop_all j R h)) ∙ inv
 
 -- ---- the cubes from number i on
 
 module _ (R C : Cover) (o : Verdict) (i : ℕ) (inv : foreign_verdict i R (drop i C) ≡ o) where
-  foreign-step : i < length C → foreign_verdict i R (drop i C) ≡ foreign_by i (first_met 0 (get_or C i []) R) (foreign_verdict (i + 1) R (drop (i + 1) C))
-  foreign-step h = rw (drop_more C i [] h, add-one)
+  foreign_step : i < length C → foreign_verdict i R (drop i C) ≡ foreign_by i (first_met 0 (get_or C i []) R) (foreign_verdict (i + 1) R (drop (i + 1) C))
+  foreign_step h = rw (drop_more C i [] h, add-one)
 
-  pub foreign-here : (j : ℕ) → i < length C → first_met 0 (get_or C i []) R ≡ Some j → Err (Foreign i j) ≡ o
-  foreign-here j h m = sym (foreign-step h ∙ rw m) ∙ inv
+  pub foreign_here : (j : ℕ) → i < length C → first_met 0 (get_or C i []) R ≡ Some j → Err (Foreign i j) ≡ o
+  foreign_here j h m = sym (foreign_step h ∙ rw m) ∙ inv
 
-  pub foreign-later : i < length C → first_met 0 (get_or C i []) R ≡ None → foreign_verdict (i + 1) R (drop (i + 1) C) ≡ o
-  foreign-later h m = sym (foreign-step h ∙ rw m) ∙ inv
+  pub foreign_later : i < length C → first_met 0 (get_or C i []) R ≡ None → foreign_verdict (i + 1) R (drop (i + 1) C) ≡ o
+  foreign_later h m = sym (foreign_step h ∙ rw m) ∙ inv
 
-  pub foreign-none : length C ≤ i → Ok tt ≡ o
-  foreign-none h = sym (ap (foreign_verdict i R) (drop_all i C h)) ∙ inv
+  pub foreign_none : length C ≤ i → Ok tt ≡ o
+  foreign_none h = sym (ap (foreign_verdict i R) (drop_all i C h)) ∙ inv
 
 -- ---- where none is named, none meets
 

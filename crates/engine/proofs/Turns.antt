@@ -38,16 +38,16 @@ module _ (B : Rule) (act : Act) (n : ℕ) (M : List Item) where
   next : (i : ℕ) (L : List Item) → i < n → taking (n - i) B act L ≡ taking (n - (i + 1)) B act (items.step B act L)
   next i L h = let e : n - i ≡ suc (n - (i + 1)) = omega arith in rw e
 
-  pub turned-some : (i k : ℕ) (L K : List Item) → i < n → items.first_of items.waits B L ≡ Some k → K ≡ act (take k L) (get_or L k no_item) (drop (suc k) L)
+  pub turned_some : (i k : ℕ) (L K : List Item) → i < n → items.first_of items.waits B L ≡ Some k → K ≡ act (take k L) (get_or L k no_item) (drop (suc k) L)
       → Turned B act n M i L → Turned B act n M (i + 1) K
-  turned-some i k L K h f e inv =
+  turned_some i k L K h f e inv =
       ap (taking (n - (i + 1)) B act) (e ∙ sym (ap (at act L) f)) ∙ sym (next i L h) ∙ inv
 
-  pub turned-skip : (i : ℕ) (L : List Item) → i < n → items.first_of items.waits B L ≡ None → Turned B act n M i L → Turned B act n M (i + 1) L
-  turned-skip i L h f inv = ap (taking (n - (i + 1)) B act) (sym (ap (at act L) f)) ∙ sym (next i L h) ∙ inv
+  pub turned_skip : (i : ℕ) (L : List Item) → i < n → items.first_of items.waits B L ≡ None → Turned B act n M i L → Turned B act n M (i + 1) L
+  turned_skip i L h f inv = ap (taking (n - (i + 1)) B act) (sym (ap (at act L) f)) ∙ sym (next i L h) ∙ inv
 
-  pub turned-all : (i : ℕ) (L : List Item) → n ≤ i → Turned B act n M i L → L ≡ taking n B act M
-  turned-all i L h inv = let e : n - i ≡ 0 = omega arith in rw e at inv
+  pub turned_all : (i : ℕ) (L : List Item) → n ≤ i → Turned B act n M i L → L ≡ taking n B act M
+  turned_all i L h inv = let e : n - i ≡ 0 = omega arith in rw e at inv
 
 -- what stays behind a place stays behind a later one
 pub stays_behind : {X : Type 0} (m n : ℕ) (xs ys : List X) → m ≤ n → drop m xs ≡ drop m ys → drop n xs ≡ drop n ys

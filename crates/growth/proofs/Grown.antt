@@ -3,7 +3,7 @@ use Rattle.std.proofs.Common.{◌≡◌, ℕ, zero, suc, ◌+◌, ◌-◌, ◌*�
 use Rattle.std.proofs.lemmas.List.{length-set, get_or-take, take-append-drop, take-replicate, drop-drop}
 use Rattle.cubes.specs.Areas.{cube_at, put_at}
 use Rattle.cubes.specs.Cubes.{Cube, Cover}
-use Rattle.cubes.proofs.Areas.{length-cube_at, take_put, drop-put, cubeAt-put}
+use Rattle.cubes.proofs.Areas.{length-cube_at, take_put, drop-put, cube_at-put}
 use Rattle.moves.specs.Widen.{widened}
 use Rattle.moves.specs.Expand.{part_weight, over, widen_at, growing, grown, Growth}
 use Rattle.orders.specs.Searches.{lightest}
@@ -50,8 +50,8 @@ module _ (p at : ℕ) (U : Cube) (R : Cover) (w : ℕ → ℕ) (E : List ℕ) wh
   next : (i : ℕ) (s : Growth) → i < p → growing (p - i) p w U R s ≡ growing (p - (i + 1)) p w U R (widen_at U R s (lightest p w s.0))
   next i s h = let e : p - i ≡ suc (p - (i + 1)) = omega arith in ap (λ n. growing n p w U R s) e
 
-  pub grows-skip : (i : ℕ) (t : List Bool) (X : List ℕ) → i < p → lightest p w (take p t) ≡ None → Grows p at U R w E i t X → Grows p at U R w E (i + 1) t X
-  grows-skip i t X h o inv = (
+  pub grows_skip : (i : ℕ) (t : List Bool) (X : List ℕ) → i < p → lightest p w (take p t) ≡ None → Grows p at U R w E i t X → Grows p at U R w E (i + 1) t X
+  grows_skip i t X h o inv = (
     inv.0,
     inv.1,
     sym (next i (take p t, cube_at p at X) h ∙ ap (λ q. growing (p - (i + 1)) p w U R (widen_at U R (take p t, cube_at p at X) q)) o) ∙ inv.2,
@@ -64,7 +64,7 @@ module _ (p at : ℕ) (U : Cube) (R : Cover) (w : ℕ → ℕ) (E : List ℕ) wh
       let g : Cube = widened k (get_or U k 0) f R in
       let lf : length f ≡ p = length-cube_at p at X lx in
       let lg : length g ≡ p = length-set f k _ ∙ lf in
-      let c : cube_at p at Y ≡ g = ap (cube_at p at) y ∙ cubeAt-put p at g X lx lg in (
+      let c : cube_at p at Y ≡ g = ap (cube_at p at) y ∙ cube_at-put p at g X lx lg in (
         length-set t k true ∙ inv.0,
         y ∙ ap (put_at p at g) inv.1 ∙ put-put p at f g E le lf ∙ ap (λ d. put_at p at d E) (sym c),
         ap₂ (λ (m : List Bool) (d : Cube). growing (p - (i + 1)) p w U R (m, d)) (take_set_in p k t true) c

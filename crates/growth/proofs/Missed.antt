@@ -44,8 +44,8 @@ module _ {X : Type 0} (s : X → ℕ) (xs ys : List X) (k : ℕ) (x y : X) (hx :
   awaited-first h = step None ∙ rw h
 
   -- a second one
-  pub awaited-second : (o : Option ℕ) {j : ℕ} → o ≡ Some j → some (bit_and (s x) (s y)) ≡ false → awaited o k (drop k (map s xs)) (drop k (map s ys)) ≡ None
-  awaited-second o {j} e h =
+  pub awaited_second : (o : Option ℕ) {j : ℕ} → o ≡ Some j → some (bit_and (s x) (s y)) ≡ false → awaited o k (drop k (map s xs)) (drop k (map s ys)) ≡ None
+  awaited_second o {j} e h =
       ap (λ q. awaited q k (drop k (map s xs)) (drop k (map s ys))) e ∙ step (Some j) ∙ rw h (by (misses (drop (k + 1) (map s xs)) (drop (k + 1) (map s ys))))
     where
       by : (n : ℕ) → ◌≡◌ {A = Option ℕ} (cond (eqb (1 + n) 0) (Some j) None) None

@@ -36,16 +36,16 @@ module _ (o f : Cube) (k : ℕ) where
   weight-append [] D = omega arith
   weight-append (c ∷ C) D = omega (arith, weight-append C D)
 
-  pub weight-push : (C : Cover) (c : Cube) → part_weight o f (C ++ c ∷ []) k ≡ part_weight o f C k + adds c
-  weight-push C c = weight-append C (c ∷ []) ∙ omega arith
+  pub weight_push : (C : Cover) (c : Cube) → part_weight o f (C ++ c ∷ []) k ≡ part_weight o f C k + adds c
+  weight_push C c = weight-append C (c ∷ []) ∙ omega arith
 
-  adds-le : (t : Bool) → cond t 1 0 ≤ 1
-  adds-le true = omega arith
-  adds-le false = omega arith
+  adds_le : (t : Bool) → cond t 1 0 ≤ 1
+  adds_le true = omega arith
+  adds_le false = omega arith
 
-  pub weight-le : (C : Cover) → part_weight o f C k ≤ length C
-  weight-le [] = omega arith
-  weight-le (c ∷ C) = omega (arith, weight-le C, adds-le (covers o c && eqb (minus (get_or c k 0) (get_or f k 0)) 0))
+  pub weight_le : (C : Cover) → part_weight o f C k ≤ length C
+  weight_le [] = omega arith
+  weight_le (c ∷ C) = omega (arith, weight_le C, adds_le (covers o c && eqb (minus (get_or c k 0) (get_or f k 0)) 0))
 
 -- the cube at a place, from another place on
 pub cube_at-from : (p a m i : ℕ) (X : List ℕ) → a + m ≡ i → cube_at p m (drop (a * p) X) ≡ cube_at p i X
@@ -58,7 +58,7 @@ weight_more p a i k o f X h =
     let e : i + 1 - a ≡ (i - a) + 1 = omega arith in
     ap (λ n. part_weight o f (cubes p n (drop (a * p) X)) k) e
     ∙ ap (λ C. part_weight o f C k) (cubes_more p (i - a) (drop (a * p) X))
-    ∙ weight-push o f k (cubes p (i - a) (drop (a * p) X)) (cube_at p (i - a) (drop (a * p) X))
+    ∙ weight_push o f k (cubes p (i - a) (drop (a * p) X)) (cube_at p (i - a) (drop (a * p) X))
     ∙ ap (λ c. part_weight o f (cubes p (i - a) (drop (a * p) X)) k + adds o f k c) (cube_at-from p a (i - a) i X (omega arith))
 
 -- ---- the cubes around one

@@ -47,11 +47,11 @@ module _ (at : ℕ) (ys xs after : List ℕ) (mid : ℕ) (w : Wrote at ys xs aft
   front : length (take at xs ++ ys) ≡ mid
   front = length-append (take at xs) ys ∙ ap (λ n. n + length ys) (length-take-le at xs (omega (arith, w.place))) ∙ sym w.place
 
-  pub length-wrote : length after ≡ length xs
-  length-wrote = ap length w.line ∙ length-overlay (take at xs ++ ys) xs (omega (arith, front))
+  pub length_wrote : length after ≡ length xs
+  length_wrote = ap length w.line ∙ length-overlay (take at xs ++ ys) xs (omega (arith, front))
 
-  pub wrote-more : (zs last : List ℕ) (end : ℕ) → Wrote mid zs after last end → Wrote at (ys ++ zs) xs last end
-  wrote-more zs last end v = record {
+  pub wrote_more : (zs last : List ℕ) (end : ℕ) → Wrote mid zs after last end → Wrote at (ys ++ zs) xs last end
+  wrote_more zs last end v = record {
     line =
         v.line ∙ ap (placed mid zs) w.line
         ∙ overlay-placed (take at xs ++ ys) zs xs mid (sym front)
@@ -63,5 +63,5 @@ module _ (at : ℕ) (ys xs after : List ℕ) (mid : ℕ) (w : Wrote at ys xs aft
 pub wrote_push : (at : ℕ) (ys xs after : List ℕ) (mid : ℕ) → Wrote at ys xs after mid → mid < length xs → (b : ℕ) → Wrote at (ys ++ b ∷ []) xs (set after mid b) (mid + 1)
 wrote_push at ys xs after mid w h b =
     let fits : mid ≤ length xs = omega arith in
-    let n = length-wrote at ys xs after mid w fits in
-    wrote-more at ys xs after mid w fits (b ∷ []) (set after mid b) (mid + 1) (wrote_one mid after (b ∷ []) b (omega (arith, n)) refl)
+    let n = length_wrote at ys xs after mid w fits in
+    wrote_more at ys xs after mid w fits (b ∷ []) (set after mid b) (mid + 1) (wrote_one mid after (b ∷ []) b (omega (arith, n)) refl)

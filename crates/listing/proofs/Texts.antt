@@ -87,8 +87,8 @@ module _ {X : Type 0} (set : X → ℕ) (most : ℕ) (xs ys : List X) (i : ℕ) 
   abbrev pub front : List ℕ
   front = cube_text most (take i (map set xs)) (take i (map set ys))
 
-  pub front-more : (x y : X) → i < length xs → i < length ys → x ≡ get_or xs i x → y ≡ get_or ys i y → cube_text most (take (i + 1) (map set xs)) (take (i + 1) (map set ys)) ≡ (front ++ gap most i) ++ part_text most (set x) (set y)
-  front-more x y h k e f =
+  pub front_more : (x y : X) → i < length xs → i < length ys → x ≡ get_or xs i x → y ≡ get_or ys i y → cube_text most (take (i + 1) (map set xs)) (take (i + 1) (map set ys)) ≡ (front ++ gap most i) ++ part_text most (set x) (set y)
+  front_more x y h k e f =
       let U = map set xs in
       let C = map set ys in
       let hU : i < length U = rw length-map h in
@@ -104,8 +104,8 @@ module _ {X : Type 0} (set : X → ℕ) (most : ℕ) (xs ys : List X) (i : ℕ) 
   pub front-all : length xs ≤ i → length ys ≤ i → front ≡ cube_text most (map set xs) (map set ys)
   front-all h k = rw (take_all i (map set xs) (rw length-map h), take_all i (map set ys) (rw length-map k))
 
-  pub length-front-le : most ≤ 64 → i ≤ length ys → length front ≤ 65 * i - 1
-  length-front-le h k = omega (arith, length_text_le most (take i (map set xs)) (take i (map set ys)) h, length-take-le i (map set ys) (rw length-map k))
+  pub length_front_le : most ≤ 64 → i ≤ length ys → length front ≤ 65 * i - 1
+  length_front_le h k = omega (arith, length_text_le most (take i (map set xs)) (take i (map set ys)) h, length-take-le i (map set ys) (rw length-map k))
 
 -- ---- it is ASCII
 

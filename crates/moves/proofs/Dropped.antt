@@ -176,8 +176,8 @@ module _ (p : ℕ) (C D : Cover) (pos : 0 < p) (wD : Wide p D) where
       × ((v : Vertex) → held C v ≡ true → held D v ≡ false → held (cubes_of L) v ≡ true)
       × ((v : Vertex) → held (cubes_of L) v ≡ true → held C v ≡ true) × (length L ≤ length C)
 
-  wide-items : (L : List Item) → AllByRecursion (λ i. Whole i.cube) L → Wide p (cubes_of L)
-  wide-items L h = all_cubes (λ c. length c ≡ p) L (All-weaker (λ i. Whole i.cube) (λ i. length i.cube ≡ p) (λ i q. q.0) L h)
+  wide_items : (L : List Item) → AllByRecursion (λ i. Whole i.cube) L → Wide p (cubes_of L)
+  wide_items L h = all_cubes (λ c. length c ≡ p) L (All-weaker (λ i. Whole i.cube) (λ i. length i.cube ≡ p) (λ i q. q.0) L h)
 
   -- a list in which no vertex is held more often
   still : (L M : List Item) → ((v : Vertex) → count (cubes_of M) v ≤ count (cubes_of L) v)
@@ -224,17 +224,17 @@ module _ (p : ℕ) (C D : Cover) (pos : 0 < p) (wD : Wide p D) where
       let one : ◌≡◌ {A = ℕ} (cond (holds c v) 1 0) 1 = ap (λ t. cond {A = ℕ} t 1 0) k in
       let once : count (cubes_of (X ++ f ∷ Y)) v ≡ 1 =
       omega (arith, count_item X f Y v, held_none (cubes_of X) v sides.0, held_none (cubes_of Y) v sides.1) in
-      put_keeps X f Y (c ∷ []) (omega arith) (λ u. omega arith) (λ u a b. yes-or (holds c u) a) (λ u a. or_yes (holds c u) a)
+      put_keeps X f Y (c ∷ []) (omega arith) (λ u. omega arith) (λ u a b. yes_or (holds c u) a) (λ u a. or_yes (holds c u) a)
       (((all_right (λ i. Whole i.cube × (i.taken ≡ true → Own (X ++ f ∷ Y) i)) X (f ∷ Y) h.0).0.0, (v, l, k, once, apart.1)), tt) h
     where
-      yes-or : (a : Bool) → a ≡ true → (a || false) ≡ true
-      yes-or a h = grind arith
+      yes_or : (a : Bool) → a ≡ true → (a || false) ≡ true
+      yes_or a h = grind arith
 
       or_yes : (a : Bool) → (a || false) ≡ true → a ≡ true
       or_yes a h = grind arith
 
-  act-keeps : (X : List Item) (f : Item) (Y : List Item) → f.taken ≡ false → Good (X ++ f ∷ Y) → Good (dropping D X f Y)
-  act-keeps X f Y e h =
+  act_keeps : (X : List Item) (f : Item) (Y : List Item) → f.taken ≡ false → Good (X ++ f ∷ Y) → Good (dropping D X f Y)
+  act_keeps X f Y e h =
       let E : Cover = cubes_of X ++ cubes_of Y ++ D in
       let c : Cube = f.cube in
       let whole = All-weaker (λ i. Whole i.cube × (i.taken ≡ true → Own (X ++ f ∷ Y) i)) (λ i. Whole i.cube) (λ i q. q.0) (X ++ f ∷ Y) h.0 in
@@ -242,7 +242,7 @@ module _ (p : ℕ) (C D : Cover) (pos : 0 < p) (wD : Wide p D) where
       let long : length c ≡ p = here.0.0 in
       let w : Wide (length c) E = subst (λ n. Wide n E) (sym long)
       (All-append (λ d. length d ≡ p) (cubes_of X ++ cubes_of Y) D
-      (All-append (λ d. length d ≡ p) (cubes_of X) (cubes_of Y) (wide-items X (all_left (λ i. Whole i.cube) X (f ∷ Y) whole)) (wide-items Y here.1)) wD) in
+      (All-append (λ d. length d ≡ p) (cubes_of X) (cubes_of Y) (wide_items X (all_left (λ i. Whole i.cube) X (f ∷ Y) whole)) (wide_items Y here.1)) wD) in
       cond_both (none_left (reduced c E)) [] (c ∷ []) (λ K. Good (put X f Y K))
       (λ q. put_keeps X f Y [] (omega arith) (λ v. omega arith) (λ v a b. absurd (true≢false (sym (none-own c E v w q a) ∙ b))) (λ v k. absurd (true≢false (sym k))) tt h)
       (λ q. let (v, l, a, b) = own_vertex c E w (omega arith) q in rests X f Y (v, l ∙ long, a, b) h)
@@ -251,7 +251,7 @@ module _ (p : ℕ) (C D : Cover) (pos : 0 < p) (wD : Wide p D) where
   unfolding drop_spare
   dropped B w =
       let L : List Item = taking (length C) B (dropping D) (started C) in
-      let g : Good L = taking-keeps B (dropping D) Good act-keeps (length C) (started C) (
+      let g : Good L = taking-keeps B (dropping D) Good act_keeps (length C) (started C) (
         fresh Whole (λ i. Own (started C) i) C 0 C (all_both (λ c. length c ≡ p) (ContainsAt C) Whole (λ c e q. (e, q)) C w (all_has_itself C)),
         λ v h _. ap (λ K. held K v) (cubes-carded C 0 C) ∙ h,
         λ v h. sym (ap (λ K. held K v) (cubes-carded C 0 C)) ∙ h,
@@ -261,7 +261,7 @@ module _ (p : ℕ) (C D : Cover) (pos : 0 < p) (wD : Wide p D) where
       let alone : AllByRecursion (Alone p (cubes_of L) D) (cubes_of L) = all_cubes (Alone p (cubes_of L) D) L
       (all_both (λ i. Whole i.cube × (i.taken ≡ true → Own L i)) Taken (Own L) (λ i q t. q.1 t) L g.0 (dropping-taken C D B)) in
       record {
-        wide = wide-items L whole;
+        wide = wide_items L whole;
         among = all_cubes (ContainsAt C) L (All-weaker (λ i. Whole i.cube) (λ i. ContainsAt C i.cube) (λ i q. q.1) L whole);
         alive = All-weaker (Alone p (cubes_of L) D) (λ c. live c ≡ true) (λ c q. vertex_live c q.0 q.2) (cubes_of L) alone;
         same = λ v d. bool_same (held (cubes_of L) v) (held C v) (g.2 v) (λ k. g.1 v k d);

@@ -106,8 +106,8 @@ module _ (p : ℕ) (U : Cube) (R C : Cover) (Q : Cube → Type 0) (eU : length U
           → (x || (f || y)) ≡ true → n ≡ (x' || (g || y')) → n ≡ true
       give x y x' y' f g a b c d e = grind arith
 
-  act-keeps : (X : List Item) (f : Item) (Y : List Item) → f.taken ≡ false → Keeps (X ++ f ∷ Y) → Keeps (expanding U R X f Y)
-  act-keeps X f Y e h =
+  act_keeps : (X : List Item) (f : Item) (Y : List Item) → f.taken ≡ false → Keeps (X ++ f ∷ Y) → Keeps (expanding U R X f Y)
+  act_keeps X f Y e h =
       let dfY : AllByRecursion Done (f ∷ Y) = all_right Done X (f ∷ Y) h.0 in
       let (a, b, c) = grown_good p U R f.cube (cubes_of X ++ cubes_of Y) eU wR dfY.0.0.0 in
       put_keeps X f Y (grown U R f.cube (cubes_of X ++ cubes_of Y)) a b c h
@@ -116,7 +116,7 @@ module _ (p : ℕ) (U : Cube) (R C : Cover) (Q : Cube → Type 0) (eU : length U
   unfolding expand
   expanded B w i a q =
       let L : List Item = taking (length C) B (expanding U R) (started C) in
-      let k : Keeps L = taking-keeps B (expanding U R) Keeps act-keeps (length C) (started C)
+      let k : Keeps L = taking-keeps B (expanding U R) Keeps act_keeps (length C) (started C)
       (fresh (λ c. Fit p U R c × Q c) (λ i. PrimeIn p U R i.cube) C 0 C (fits C w i a q), λ v h. ap (λ D. held D v) (cubes-carded C 0 C) ∙ h, omega (arith, length-carded C 0 C)) in
       let each = λ (P : Cube → Type 0) (f : (i : Item) → Done i → P i.cube). all_cubes P L (All-weaker Done (λ i. P i.cube) f L k.0) in (
         record {

@@ -99,12 +99,12 @@ module _ (p : ℕ) (w : ℕ → ℕ) (U : Cube) (R : Cover) (f : Cube) (eU : len
             (cases_eq j k),
       )
 
-  growing-good : (n : ℕ) (s : Growth) → unmarked s.0 ≤ n → Good s
+  growing_good : (n : ℕ) (s : Growth) → unmarked s.0 ≤ n → Good s
       → Good (growing n p w U R s) × ((k : ℕ) → k < p → get_or (growing n p w U R s).0 k false ≡ true)
-  growing-good zero s l h = (h, λ k m. none-unmarked s.0 (omega arith) k (rw h.0 m))
-  growing-good (suc n) s l h =
+  growing_good zero s l h = (h, λ k m. none-unmarked s.0 (omega arith) k (rw h.0 m))
+  growing_good (suc n) s l h =
       let (a, b) = by (lightest p w s.0) (lightest-found p w s.0) in
-      growing-good n (widen_at U R s (lightest p w s.0)) a b
+      growing_good n (widen_at U R s (lightest p w s.0)) a b
     where
       by : (o : Option ℕ) → Found (λ k. not (get_or s.0 k false)) p o → (unmarked (widen_at U R s o).0 ≤ n) × Good (widen_at U R s o)
       by None g =
@@ -126,7 +126,7 @@ grown_good p U R f C eU wR fit =
     let here : Fit q U R f = (refl, fit.1, fit.2) in
     let none : (k : ℕ) → k < q → get_or (replicate q false) k false ≡ true → Full k U f R =
     λ k l e. absurd (both_ways _ (get_or-replicate q k false false l) e) in
-    let r = growing-good q wt U R f eq wq refl q (replicate q false, f) (omega (arith, unmarked-replicate q))
+    let r = growing_good q wt U R f eq wq refl q (replicate q false, f) (omega (arith, unmarked-replicate q))
     (length-replicate q false, here, covers_self f, none) in
     let g : Cube = (growing q q wt U R (replicate q false, f)).1 in (
       subst (λ n. Fit n U R g) fit.0 r.0.1,

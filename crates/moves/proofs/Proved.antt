@@ -133,7 +133,7 @@ expand_stands : (p most : ℕ) (U : Cube) (T : List Row) (R C : Cover) (B : Rule
 expand_stands p most U T R C B s =
     let a = standing_apart p most U T R C s in
     let e = expand_keeps p U R C B s.table.parts s.off_wide s.wide s.within a in
-    stands.still-stands p most U T R C s (expand B U R C) e.wide
+    stands.still_stands p most U T R C s (expand B U R C) e.wide
     (expand_alive p U R C B s.table.parts s.off_wide s.wide s.within a s.alive) e.within e.apart (λ v h _. e.keeps v h)
 
 dropped : (p most : ℕ) (U : Cube) (T : List Row) (R C : Cover) (B : Rule) → Standing p most U T R C → Dropped p (dc_rows T) C (drop_spare B (dc_rows T) C)
@@ -143,7 +143,7 @@ drop_stands : (p most : ℕ) (U : Cube) (T : List Row) (R C : Cover) (B : Rule) 
 drop_stands p most U T R C B s =
     let d = dropped p most U T R C B s in
     let still = λ (P : Cube → Type 0) (h : AllByRecursion P C). All-weaker _ P (λ c q. all-has P C c h q) _ d.among in
-    stands.still-stands p most U T R C s (drop_spare B (dc_rows T) C) d.wide d.alive (still _ s.within)
+    stands.still_stands p most U T R C s (drop_spare B (dc_rows T) C) d.wide d.alive (still _ s.within)
     (still _ (standing_apart p most U T R C s)) (λ v h o. d.same v o ∙ h)
 
 pub calls_stand : CallsStand
@@ -154,12 +154,12 @@ calls_stand p most U T R C B s =
 pub expand_prime : ExpandPrime
 expand_prime p most U T R C B s =
     let a = standing_apart p most U T R C s in
-    stands.prime-stands p most U T R (expand B U R C) (expand_stands p most U T R C B s)
+    stands.prime_stands p most U T R (expand B U R C) (expand_stands p most U T R C B s)
     (expand_keeps p U R C B s.table.parts s.off_wide s.wide s.within a).prime
 
 pub drop_irredundant : DropIrredundant
 drop_irredundant p most U T R C B s =
-    stands.needed-stands p most U T R (drop_spare B (dc_rows T) C) (drop_stands p most U T R C B s) (dropped p most U T R C B s).needed
+    stands.needed_stands p most U T R (drop_spare B (dc_rows T) C) (drop_stands p most U T R C B s) (dropped p most U T R C B s).needed
 
 pub finish_ends : FinishEnds
 finish_ends p most U T R C B s =

@@ -67,8 +67,8 @@ module _ (p most : ℕ) (U : Cube) (T : List Row) (table : Proper p most U T) wh
       ((l, holds-below most U v (l ∙ sym table.parts) (All-weaker (Sized most) (λ s. s < 2 ^ most) (sized-below most) U table.sizes) u), u)
 
   -- the ON rows, with any list that holds exactly the off vertices
-  pub rows-stand : (R : Cover) → Wide p R → ((v : Vertex) → Point p most v → (held R v ≡ true) ↔ Off U T v) → Standing p most U T R (on_rows T)
-  rows-stand R w x =
+  pub rows_stand : (R : Cover) → Wide p R → ((v : Vertex) → Point p most v → (held R v ≡ true) ↔ Off U T v) → Standing p most U T R (on_rows T)
+  rows_stand R w x =
       record {
         table = table;
         off_wide = w;
@@ -81,7 +81,7 @@ module _ (p most : ℕ) (U : Cube) (T : List Row) (table : Proper p most U T) wh
 
   pub on_stands : Standing p most U T (rest U (all_rows T)) (on_rows T)
   on_stands =
-      rows-stand (rest U (all_rows T)) (subst (λ n. Wide n (rest U (all_rows T))) table.parts (rest_wide U (all_rows T)))
+      rows_stand (rest U (all_rows T)) (subst (λ n. Wide n (rest U (all_rows T))) table.parts (rest_wide U (all_rows T)))
       (λ v pt. rest_exact p most U T v table.parts table.wide pt)
 
 module _ (p most : ℕ) (U : Cube) (T : List Row) (R C : Cover) (s : Standing p most U T R C) where
@@ -102,9 +102,9 @@ module _ (p most : ℕ) (U : Cube) (T : List Row) (R C : Cover) (s : Standing p 
                   absurd (both_ways _ ((s.lawful v pt).1 ((s.off_exact v pt).0 q)) (sub v (or_left _ _ h)))
 
   -- other cubes in their place, which lose no vertex that matters
-  pub still-stands : (E : Cover) → Wide p E → Alive E → Within U E → Apart R E
+  pub still_stands : (E : Cover) → Wide p E → Alive E → Within U E → Apart R E
       → ((v : Vertex) → held C v ≡ true → held (dc_rows T) v ≡ false → held E v ≡ true) → Standing p most U T R E
-  still-stands E w l i a keep =
+  still_stands E w l i a keep =
       record {
         table = s.table;
         off_wide = s.off_wide;
@@ -127,8 +127,8 @@ module _ (p most : ℕ) (U : Cube) (T : List Row) (R C : Cover) (s : Standing p 
       (λ g. subst (λ z. has (get_or U k 0) z ≡ true) (sym (eqb-true y x (sym (has_only x y) ∙ g))) u)
       (or_cases _ _ (sym (has-or a (2 ^ x) y) ∙ h))))
 
-  pub prime-stands : AllByRecursion (PrimeIn p U R) C → AllByRecursion (Prime p most U T) C
-  prime-stands h =
+  pub prime_stands : AllByRecursion (PrimeIn p U R) C → AllByRecursion (Prime p most U T) C
+  prime_stands h =
       all_both (λ c. (length c ≡ p) × (covers U c ≡ true)) (PrimeIn p U R) (Prime p most U T) prime C
       (all_both (λ c. length c ≡ p) (λ c. covers U c ≡ true) (λ c. (length c ≡ p) × (covers U c ≡ true)) (λ c e i. (e, i)) C s.wide s.within) h
     where
@@ -141,8 +141,8 @@ module _ (p most : ℕ) (U : Cube) (T : List Row) (R C : Cover) (s : Standing p 
           (v, pt, (s.off_exact v pt).0 b, a)
 
   -- what is held and is no DC row's is a care vertex
-  pub held-care : (v : Vertex) → Point p most v → holds U v ≡ true → held C v ≡ true → held (dc_rows T) v ≡ false → Care T v
-  held-care v pt u h d = (on (held (all_rows T) v) refl, d)
+  pub held_care : (v : Vertex) → Point p most v → holds U v ≡ true → held C v ≡ true → held (dc_rows T) v ≡ false → Care T v
+  held_care v pt u h d = (on (held (all_rows T) v) refl, d)
     where
       on : (t : Bool) → held (all_rows T) v ≡ t → held (on_rows T) v ≡ true
       on true q = by (held (on_rows T) v) (held (dc_rows T) v) (sym (rows_held T v) ∙ q) d
@@ -151,11 +151,11 @@ module _ (p most : ℕ) (U : Cube) (T : List Row) (R C : Cover) (s : Standing p 
           by o d h k = grind arith
       on false q = absurd (both_ways _ ((s.lawful v pt).1 (u, q)) h)
 
-  pub needed-stands : Needed p (dc_rows T) C → Irredundant p most T C
-  needed-stands need X c Y e =
+  pub needed_stands : Needed p (dc_rows T) C → Irredundant p most T C
+  needed_stands need X c Y e =
       let (v, l, h, o, d) = need X c Y e in
       let long = (all_right (λ c. length c ≡ p) X (c ∷ Y) (subst (Wide p) e s.wide)).0 in
       let in-u = (all_right (λ c. covers U c ≡ true) X (c ∷ Y) (subst (Within U) e s.within)).0 in
       let (pt, u) = within-point p most U T s.table c v long in-u l h in
       let there : held C v ≡ true = ap (λ K. held K v) e ∙ held-++ X (c ∷ Y) v ∙ or_right _ _ (or_left _ _ h) in
-      (v, pt, held-care v pt u there d, there, o)
+      (v, pt, held_care v pt u there d, there, o)

@@ -33,17 +33,17 @@ module _ (free : ℕ → Bool) (before : ℕ → ℕ → Bool)
   compared n b false e h = λ k l f a.
       ⊎_elim (λ q. absurd (both_ways _ e (rw q at a))) (λ q. h k (omega arith) f a) (cases_eq k n)
 
-  level-more : (n : ℕ) (t : Bool) (o : Option ℕ) → free n ≡ t → Found free n o → Level free before n o → Level free before (suc n) (against t before n o)
-  level-more n true None e g h = λ k l f a.
+  level_more : (n : ℕ) (t : Bool) (o : Option ℕ) → free n ≡ t → Found free n o → Level free before n o → Level free before (suc n) (against t before n o)
+  level_more n true None e g h = λ k l f a.
       ⊎_elim (λ q. rw q (rw q at a)) (λ q. absurd (both_ways _ (g k (omega arith)) f)) (cases_eq k n)
-  level-more n true (Some b) e g h = compared n b (before n b) refl h
-  level-more n false None e g h = tt
-  level-more n false (Some b) e g h = λ k l f a.
+  level_more n true (Some b) e g h = compared n b (before n b) refl h
+  level_more n false None e g h = tt
+  level_more n false (Some b) e g h = λ k l f a.
       ⊎_elim (λ q. absurd (both_ways _ (ap free q ∙ e) f)) (λ q. h k (omega arith) f a) (cases_eq k n)
 
   level : (n : ℕ) → Level free before n (best free before n)
   level zero = tt
-  level (suc n) = level-more n (free n) (best free before n) refl (best-found free before n) (level n)
+  level (suc n) = level_more n (free n) (best free before n) refl (best-found free before n) (level n)
 
 -- ---- so, by the law of an order, it comes before every other that has another place
 

@@ -118,8 +118,8 @@ module _ {X : Type 0} (s : X → ℕ) (t : Filling) (us ts : List X) (rs : List 
   verdict : open_verdict t.p t.rows (on_count t.rows rs) (length (map s us)) (area_length t.p (length (map s ts)) (length rs)) (area_length t.p (length (map s solution)) (length cards)) (area_length t.p (length (map s work)) (length numbers)) ≡ v
   verdict = simp length-map (cc)
 
-  pub leaves-refused : (c : Cause) → v ≡ Err c → leaving (Err (t, by_engine c)) (map s off) (map s solution) cards (map s work) numbers ≡ made
-  leaves-refused c e = rw (verdict ∙ e)
+  pub leaves_refused : (c : Cause) → v ≡ Err c → leaving (Err (t, by_engine c)) (map s off) (map s solution) cards (map s work) numbers ≡ made
+  leaves_refused c e = rw (verdict ∙ e)
 
   module _ (passed : v ≡ Ok tt) where
     room : (t.p ≤ length us) × (t.rows ≤ a) × (on_count t.rows rs ≤ b) × (1 + (t.p - 1) * t.rows ≤ d)
@@ -131,17 +131,17 @@ module _ {X : Type 0} (s : X → ℕ) (t : Filling) (us ts : List X) (rs : List 
         let k = fits_area t.p (length solution) (length cards) (on_count t.rows rs) h (omega (arith, room.2)) in
         (room.0, f.0, f.1, k.0, k.1, omega (arith, room.3))
 
-    pub leaves-full : leb (length list) (off_most t.p (length off)) ≡ false
+    pub leaves_full : leb (length list) (off_most t.p (length off)) ≡ false
         → leaving (Err (t, by_engine (Off (off_most t.p (length off))))) (overlay (flat (take (off_most t.p (length off)) list)) (map s off)) (map s solution) cards
         (overlay (replicate (area_length t.p (length work) (length numbers) * t.p) 0) (map s work)) (overlay (replicate (area_length t.p (length work) (length numbers)) 0) numbers) ≡ made
-    leaves-full e =
+    leaves_full e =
         let f : leb (length list) (off_most t.p (length (map s off))) ≡ false = ap (λ n. leb (length list) (off_most t.p n)) (length-map off s) ∙ e in
         rw (verdict ∙ passed, f) (simp length-map)
 
-    pub leaves-open : leb (length list) (off_most t.p (length off)) ≡ true
+    pub leaves_open : leb (length list) (off_most t.p (length off)) ≡ true
         → leaving (Ok (record { p = t.p; rows = t.rows; off = length list; count = on_count t.rows rs })) (overlay (flat (take (off_most t.p (length off)) list)) (map s off)) (overlay (flat (on_cubes t.p t.rows (map s ts) rs)) (map s solution)) (overlay (replicate (on_count t.rows rs) blank) cards)
         (overlay (replicate (area_length t.p (length work) (length numbers) * t.p) 0) (map s work)) (overlay (replicate (area_length t.p (length work) (length numbers)) 0) numbers) ≡ made
-    leaves-open e =
+    leaves_open e =
         let f : leb (length list) (off_most t.p (length (map s off))) ≡ true = ap (λ n. leb (length list) (off_most t.p n)) (length-map off s) ∙ e in
         let all : take (off_most t.p (length off)) list ≡ list = take_all (off_most t.p (length off)) list (leb-true (length list) (off_most t.p (length off)) e) in
         rw (verdict ∙ passed, f, all) (simp length-map)

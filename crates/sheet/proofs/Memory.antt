@@ -17,13 +17,13 @@ module _ {P : Type 0} (set : P → ℕ) (none : P) (void : set none ≡ 0) where
   voids : (n : ℕ) (xs : List P) → xs ≡ replicate n none → map set xs ≡ replicate n 0
   voids n xs e = ap (map set) e ∙ map-replicate set n none ∙ ap (replicate n) void
 
-  pub fresh-is :
+  pub fresh_is :
       (card : Card) → card ≡ blank → (p cubes : ℕ) → cubes ≡ work_cubes p → (a : Areas P)
       → vec_items a.universe ≡ replicate 8 none → vec_items a.table ≡ replicate (32 * p) none → vec_items a.rows ≡ replicate 32 card
       → vec_items a.off ≡ replicate (128 * p) none → vec_items a.solution ≡ replicate (32 * p) none
       → vec_items a.cards ≡ replicate 32 card → vec_items a.work ≡ replicate (cubes * p) none → vec_items a.numbers ≡ replicate cubes 0
       → memory set a ≡ fresh p
-  fresh-is card plain p cubes enough a u t r o s k w n =
+  fresh_is card plain p cubes enough a u t r o s k w n =
       let u' = voids 8 _ u in
       let t' = voids (32 * p) _ t in
       let o' = voids (128 * p) _ o in

@@ -6,7 +6,7 @@ use Rattle.commands.specs.Commands.{reading}
 use Rattle.sheet.specs.Bench.{Memory, Drafted, Step, fresh, sizing, filling, beginning, begins, at_filling, at_sizing}
 use Rattle.sheet.specs.Lines.{lines_from}
 use Rattle.sheet.specs.Views.{Small, lines_begun}
-use Rattle.sheet.proofs.Steps.{lines-refused, lines_same}
+use Rattle.sheet.proofs.Steps.{lines_refused, lines_same}
 
 -- one part more
 pub small_set : (sizes : List ℕ) (p size : ℕ) → Small sizes → size ≤ 64 → Small (set sizes p size)
@@ -24,4 +24,4 @@ lines_begun_lem end most sizes after p bs c e h = by (beginning most after p (fr
     by : (b : Result (Drafted × Memory) Fault) → ◌≡◌ {A = Step} (elim b [ Ok b ↦ at_filling most b.0 b.1 c | Err f ↦ Err f ]) (at_sizing most sizes p c)
         → lines_begun end most b bs ≡ lines_from end (sizing most sizes p) bs
     by (Ok b) k = lines_same end (filling most b.0 b.1) bs c e (sizing most sizes p) k
-    by (Err f) k = sym (lines-refused end (sizing most sizes p) bs c e f (sym k))
+    by (Err f) k = sym (lines_refused end (sizing most sizes p) bs c e f (sym k))

@@ -38,8 +38,8 @@ enough (suc n) (suc m) end s bs h k =
     (λ c t e. let l = shorter bs c e in enough n m end t (drop (width c) bs) (omega arith) (omega arith))
 
 module _ (end : ℕ) (s : State) (bs : List ℕ) (c : Command) (e : reading bs ≡ Ok (Some c)) where
-  pub lines-refused : (f : Fault) → obeyed s c ≡ Err f → lines_from end s bs ≡ refusal_line f (end - length bs)
-  lines-refused f h = rw (e, h)
+  pub lines_refused : (f : Fault) → obeyed s c ≡ Err f → lines_from end s bs ≡ refusal_line f (end - length bs)
+  lines_refused f h = rw (e, h)
 
   pub lines_more : (t : State) (line : List ℕ) → obeyed s c ≡ Ok (t, line) → lines_from end s bs ≡ line ++ lines_from end t (drop (width c) bs)
   lines_more t line h =
@@ -49,9 +49,9 @@ module _ (end : ℕ) (s : State) (bs : List ℕ) (c : Command) (e : reading bs �
       rw (e, h) (ap (λ l. line ++ l) rest)
 
   -- the same after the lines so far
-  pub lines-on : (t : State) (line out next all rest : List ℕ) → obeyed s c ≡ Ok (t, line) → next ≡ out ++ line → rest ≡ drop (width c) bs
+  pub lines_on : (t : State) (line out next all rest : List ℕ) → obeyed s c ≡ Ok (t, line) → next ≡ out ++ line → rest ≡ drop (width c) bs
       → out ++ lines_from end s bs ≡ all → next ++ lines_from end t rest ≡ all
-  lines-on t line out next all rest h a r k =
+  lines_on t line out next all rest h a r k =
       ap₂ (λ (n r : List ℕ). n ++ lines_from end t r) a r
       ∙ append_assoc out line (lines_from end t (drop (width c) bs)) ∙ ap (λ l. out ++ l) (sym (lines_more t line h)) ∙ k
 

@@ -2,7 +2,7 @@
 use Rattle.std.proofs.Common.{◌≡◌, ℕ, ◌+◌, ◌-◌, ◌*◌, ◌/◌, ◌≤◌, min, List, ◌++◌, map, length, take, drop, replicate, sym, ap, ◌∙◌, mul-le-mul_right, add-mul, one-mul, le-div_iff_mul-le, arith}
 use Rattle.std.proofs.lemmas.List.{length-map, length-replicate, map-append, drop-map, drop_at}
 use Rattle.cubes.specs.Areas.{cube_at, put_at, overlay}
-use Rattle.cubes.proofs.Areas.{map-put, map-cube_at, cubeAt-put, length-cube_at}
+use Rattle.cubes.proofs.Areas.{map-put, map-cube_at, cube_at-put, length-cube_at}
 use Rattle.table.specs.Cards.{area_length}
 use Rattle.table.proofs.Verdicts.{first_cube}
 
@@ -16,7 +16,7 @@ put_first s p c W U h l e =
     let f : map s c ≡ cube_at p 0 (map s U) = ap (map s) e ∙ map-cube_at s p 0 U in
     let size : length (map s c) ≡ p = length-map c s ∙ ap length e ∙ length-cube_at p 0 U (first_fits p (length U) l) in
     let room : 0 * p + p ≤ length (map s W) = rw length-map (first_fits p (length W) h) in
-    ap (cube_at p 0) (map-put s p 0 c W) ∙ cubeAt-put p 0 (map s c) (map s W) room size ∙ f ∙ first_cube p (map s U)
+    ap (cube_at p 0) (map-put s p 0 c W) ∙ cube_at-put p 0 (map s c) (map s W) room size ∙ f ∙ first_cube p (map s U)
 
 -- a piece more than fits one place fits one
 pub one_fits : (p n m : ℕ) → (1 + (p - 1) * n) * p ≤ m → p ≤ m

@@ -11,13 +11,13 @@ module _ (n i : ℕ) (cs : List Card) (h : i < n) where
   next : n - i ≡ suc (n - (i + 1))
   next = omega arith
 
-  first-card : get_or (drop i cs) 0 blank ≡ get_or cs i blank
-  first-card = get_or-drop i cs 0 blank ∙ ap (λ m. get_or cs m blank) (add-zero i)
+  first_card : get_or (drop i cs) 0 blank ≡ get_or cs i blank
+  first_card = get_or-drop i cs 0 blank ∙ ap (λ m. get_or cs m blank) (add-zero i)
 
   pub count-step : on_count (n - i) (drop i cs) ≡ cond (is_on (get_or cs i blank)) 1 0 + on_count (n - (i + 1)) (drop (i + 1) cs)
   count-step =
       ap (λ m. on_count m (drop i cs)) next
-      ∙ ap₂ (λ (c : Card) (D : List Card). cond (is_on c) 1 0 + on_count (n - (i + 1)) D) first-card (drop-drop 1 i cs)
+      ∙ ap₂ (λ (c : Card) (D : List Card). cond (is_on c) 1 0 + on_count (n - (i + 1)) D) first_card (drop-drop 1 i cs)
 
   pub cubes-step : {X : Type 0} (p : ℕ) (ts : List X)
       → let R = on_cubes p (n - (i + 1)) (drop ((i + 1) * p) ts) (drop (i + 1) cs) in
@@ -25,7 +25,7 @@ module _ (n i : ℕ) (cs : List Card) (h : i < n) where
   cubes-step {X} p ts =
       let e : drop p (drop (i * p) ts) ≡ drop ((i + 1) * p) ts = drop-drop p (i * p) ts ∙ ap (λ m. drop m ts) (sym (next_place i p)) in
       ap (λ m. on_cubes p m (drop (i * p) ts) (drop i cs)) next
-      ∙ ap (λ (c : Card). cond (is_on c) (cube_at p i ts ∷ on_cubes p (n - (i + 1)) (drop p (drop (i * p) ts)) (drop 1 (drop i cs))) (on_cubes p (n - (i + 1)) (drop p (drop (i * p) ts)) (drop 1 (drop i cs)))) first-card
+      ∙ ap (λ (c : Card). cond (is_on c) (cube_at p i ts ∷ on_cubes p (n - (i + 1)) (drop p (drop (i * p) ts)) (drop 1 (drop i cs))) (on_cubes p (n - (i + 1)) (drop p (drop (i * p) ts)) (drop 1 (drop i cs)))) first_card
       ∙ ap₂ (λ (T : List X) (D : List Card). cond (is_on (get_or cs i blank)) (cube_at p i ts ∷ on_cubes p (n - (i + 1)) T D) (on_cubes p (n - (i + 1)) T D)) e (drop-drop 1 i cs)
 
 more_on : {X : Type 0} (c : X) (C : List X) (m : ℕ) (t : Bool) → length C ≡ m → length (cond t (c ∷ C) C) ≡ cond t 1 0 + m
@@ -38,8 +38,8 @@ length-on_cubes p (suc n) ts cs = more_on _ (on_cubes p n (drop p ts) (drop 1 cs
 
 -- one cube more of the solution
 module _ {X : Type 0} (p on : ℕ) (c S : List X) (fits : on * p + p ≤ length S) (size : length c ≡ p) where
-  pub solution-more : take ((on + 1) * p) (put_at p on c S) ≡ take (on * p) S ++ c
-  solution-more = take-put_mid (on * p) p S c ((on + 1) * p) (omega (arith, next_place on p)) (omega arith)
+  pub solution_more : take ((on + 1) * p) (put_at p on c S) ≡ take (on * p) S ++ c
+  solution_more = take-put_mid (on * p) p S c ((on + 1) * p) (omega (arith, next_place on p)) (omega arith)
 
   pub solution-left : (E : List X) → drop (on * p) S ≡ drop (on * p) E → drop ((on + 1) * p) (put_at p on c S) ≡ drop ((on + 1) * p) E
   solution-left E e =
@@ -49,8 +49,8 @@ module _ {X : Type 0} (p on : ℕ) (c S : List X) (fits : on * p + p ≤ length 
 
 -- one card more
 module _ (on : ℕ) (N : List Card) (fits : on < length N) where
-  pub cards-more : take on N ≡ replicate on blank → take (on + 1) (set N on blank) ≡ replicate (on + 1) blank
-  cards-more e = take_more_set N on blank fits ∙ ap (λ L. L ++ blank ∷ []) e ∙ replicate_more on blank
+  pub cards_more : take on N ≡ replicate on blank → take (on + 1) (set N on blank) ≡ replicate (on + 1) blank
+  cards_more e = take_more_set N on blank fits ∙ ap (λ L. L ++ blank ∷ []) e ∙ replicate_more on blank
 
   pub cards-left : (E : List Card) → drop on N ≡ drop on E → drop (on + 1) (set N on blank) ≡ drop (on + 1) E
   cards-left E e = drop-set-lt (on + 1) N on blank (omega arith) ∙ sym (drop-drop 1 on N) ∙ ap (drop 1) e ∙ drop-drop 1 on E
@@ -73,22 +73,22 @@ Copying p n ts cs E F i on S N =
     × (drop on N ≡ drop on F)
 
 module _ {X : Type 0} (p n : ℕ) (ts : List X) (cs : List Card) (E : List X) (F : List Card) (i on : ℕ) (S : List X) (N : List Card) (h : i < n) where
-  pub copying-on : is_on (get_or cs i blank) ≡ true → length (cube_at p i ts) ≡ p → on * p + p ≤ length S → on < length N
+  pub copying_on : is_on (get_or cs i blank) ≡ true → length (cube_at p i ts) ≡ p → on * p + p ≤ length S → on < length N
       → Copying p n ts cs E F i on S N → Copying p n ts cs E F (i + 1) (on + 1) (put_at p on (cube_at p i ts) S) (set N on blank)
-  copying-on t size fits room inv =
+  copying_on t size fits room inv =
       let R = on_cubes p (n - (i + 1)) (drop ((i + 1) * p) ts) (drop (i + 1) cs) in
       let count = count-step n i cs h ∙ ap (λ b. cond b 1 0 + on_count (n - (i + 1)) (drop (i + 1) cs)) t in
       let cubes : on_cubes p (n - i) (drop (i * p) ts) (drop i cs) ≡ cube_at p i ts ∷ R = cubes-step n i cs h p ts ∙ ap (λ b. cond b (cube_at p i ts ∷ R) R) t in (
         omega (arith, count, inv.0),
-        ap (λ L. L ++ flat R) (solution-more p on (cube_at p i ts) S fits size) ∙ append_assoc (take (on * p) S) (cube_at p i ts) (flat R)
+        ap (λ L. L ++ flat R) (solution_more p on (cube_at p i ts) S fits size) ∙ append_assoc (take (on * p) S) (cube_at p i ts) (flat R)
             ∙ ap (λ C. take (on * p) S ++ flat C) (sym cubes) ∙ inv.1,
         solution-left p on (cube_at p i ts) S fits size E inv.2,
-        cards-more on N room inv.3,
+        cards_more on N room inv.3,
         cards-left on N room F inv.4,
       )
 
-  pub copying-off : is_on (get_or cs i blank) ≡ false → Copying p n ts cs E F i on S N → Copying p n ts cs E F (i + 1) on S N
-  copying-off t inv =
+  pub copying_off : is_on (get_or cs i blank) ≡ false → Copying p n ts cs E F i on S N → Copying p n ts cs E F (i + 1) on S N
+  copying_off t inv =
       let R = on_cubes p (n - (i + 1)) (drop ((i + 1) * p) ts) (drop (i + 1) cs) in
       let count = count-step n i cs h ∙ ap (λ b. cond b 1 0 + on_count (n - (i + 1)) (drop (i + 1) cs)) t in
       let cubes : on_cubes p (n - i) (drop (i * p) ts) (drop i cs) ≡ R = cubes-step n i cs h p ts ∙ ap (λ b. cond b (cube_at p i ts ∷ R) R) t in

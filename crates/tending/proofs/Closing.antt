@@ -13,7 +13,7 @@ use Rattle.moves.specs.Items.{Item, no_item}
 use Rattle.table.specs.declared.card.Card.{Card}
 use Rattle.table.specs.Cards.{blank}
 use Rattle.tending.specs.Items.{items_of, stays, spared_but}
-use Rattle.tending.proofs.Places.{get_or-items, items-put}
+use Rattle.tending.proofs.Places.{get_or-items, items_put}
 use Rattle.tending.proofs.Spared.{but_more}
 
 -- ---- one item is copied
@@ -33,15 +33,15 @@ module _ {X : Type 0} (s : X → ℕ) (p n : ℕ) (xs : List X) (C : List Card) 
   size : length (cube_at p from xs) ≡ p
   size = length-cube_at p from xs source
 
-  pub moved-items : let L = items_of p n (map s xs) C in
+  pub moved_items : let L = items_of p n (map s xs) C in
       items_of p n (map s (put_at p to (cube_at p from xs) xs)) (set C to (get_or C from blank)) ≡ set L to (get_or L from no_item)
-  moved-items =
+  moved_items =
       let S = map s xs in
       let L = items_of p n S C in
       let long : n * p ≤ length S = omega (arith, length-map xs s) in
       let c : length (cube_at p from S) ≡ p = length-cube_at p from S (omega (arith, source, length-map xs s)) in
       ap (λ T. items_of p n T (set C to (get_or C from blank))) (map-put s p to (cube_at p from xs) xs ∙ ap (λ d. put_at p to d S) (map-cube_at s p from xs))
-      ∙ items-put p n S C long beside to t (cube_at p from S) (get_or C from blank) c
+      ∙ items_put p n S C long beside to t (cube_at p from S) (get_or C from blank) c
       ∙ ap (set L to) (sym (get_or-items p n from S C f))
 
   pub moved-parts : drop (n * p) (put_at p to (cube_at p from xs) xs) ≡ drop (n * p) xs
@@ -98,8 +98,8 @@ abbrev pub Leads : Cube → ℕ → List Item → ℕ → ℕ → ℕ → Type 0
 Leads g at M lead k i = (((i ≤ at) × (lead ≡ at)) ⊎ ((at < i) × (lead < k))) × ((get_or M lead no_item).cube ≡ g) × (lead < length M)
 
 module _ (g : Cube) (at : ℕ) (M : List Item) (lead k i : ℕ) (le : k ≤ i) (m : i < length M) (inv : Leads g at M lead k i) where
-  pub leads-more : Leads g at (set M k (get_or M i no_item)) (cond (eqb i at) k lead) (k + 1) (i + 1)
-  leads-more =
+  pub leads_more : Leads g at (set M k (get_or M i no_item)) (cond (eqb i at) k lead) (k + 1) (i + 1)
+  leads_more =
       let x = get_or M i no_item in
       let long = length-set M k x in
       let old = inv.2 in
@@ -121,8 +121,8 @@ module _ (g : Cube) (at : ℕ) (M : List Item) (lead k i : ℕ) (le : k ≤ i) (
       inv.0))
       (cases_eq i at)
 
-  pub leads-less : (i ≡ at → ⊥) → Leads g at M lead k (i + 1)
-  leads-less ne =
+  pub leads_less : (i ≡ at → ⊥) → Leads g at M lead k (i + 1)
+  leads_less ne =
       ⊎_elim
       (λ (h : (i ≤ at) × (lead ≡ at)). let a = h.0 in let l : i + 1 ≤ at = ⊎_elim (λ (b : i < at). omega arith) (λ (b : at ≤ i). absurd (ne (omega arith))) (cases_lt i at) in (inl (l, h.1), inv.1, inv.2))
       (λ (h : (at < i) × (lead < k)). let a = h.0 in (inr (omega arith, h.1), inv.1, inv.2))

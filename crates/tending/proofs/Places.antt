@@ -3,7 +3,7 @@ use Rattle.std.proofs.Common.{◌≡◌, ℕ, zero, suc, ◌+◌, ◌*◌, ◌<�
 use Rattle.std.proofs.lemmas.List.{drop-drop, get_or-drop, length-set, get_or-set_same, get_or-set_other, ext_get_or}
 use Rattle.std.proofs.lemmas.Bool.{cases_order}
 use Rattle.cubes.specs.Areas.{cube_at, cubes, put_at}
-use Rattle.cubes.proofs.Areas.{next_place, place_below, cubeAt-put, cubeAt-put-above, cubeAt-put-below}
+use Rattle.cubes.proofs.Areas.{next_place, place_below, cube_at-put, cube_at-put_above, cube_at-put_below}
 use Rattle.moves.specs.Items.{Item, no_item, cubes_of}
 use Rattle.table.specs.declared.card.Card.{Card}
 use Rattle.table.specs.Cards.{blank}
@@ -47,30 +47,30 @@ module _ (p n : ℕ) (S : List ℕ) (C : List Card) (fits : n * p ≤ length S) 
   here : i * p + p ≤ length S
   here = omega (arith, place_below i n p at)
 
-  pub items-put : (c : List ℕ) (k : Card) → length c ≡ p → items_of p n (put_at p i c S) (set C i k) ≡ set (items_of p n S C) i (item_of c k)
-  items-put c k size =
+  pub items_put : (c : List ℕ) (k : Card) → length c ≡ p → items_of p n (put_at p i c S) (set C i k) ≡ set (items_of p n S C) i (item_of c k)
+  items_put c k size =
       let L = items_of p n S C in
       let l : length L ≡ n = length_items p n S C in
-      let in-L : i < length L = omega arith in
+      let in_L : i < length L = omega arith in
       let in-C : i < length C = omega arith in
       same_items p n (put_at p i c S) (set C i k) (set L i (item_of c k)) (length-set L i (item_of c k) ∙ l) (λ j h.
-      ⊎_elim (λ (e : j ≡ i). rw e (rw (cubeAt-put p i c S here size, get_or-set_same C i k blank in-C, get_or-set_same L i (item_of c k) no_item in-L)))
+      ⊎_elim (λ (e : j ≡ i). rw e (rw (cube_at-put p i c S here size, get_or-set_same C i k blank in-C, get_or-set_same L i (item_of c k) no_item in_L)))
       (⊎_elim
       (λ (b : j < i). let ne : j ≢ i = omega arith in
-      rw (cubeAt-put-below p i c S here size j b, get_or-set_other C i j k blank ne, get_or-set_other L i j (item_of c k) no_item ne) (sym (get_or-items p n j S C h)))
+      rw (cube_at-put_below p i c S here size j b, get_or-set_other C i j k blank ne, get_or-set_other L i j (item_of c k) no_item ne) (sym (get_or-items p n j S C h)))
       (λ (b : i < j). let ne : j ≢ i = omega arith in
-      rw (cubeAt-put-above p i c S here size j b, get_or-set_other C i j k blank ne, get_or-set_other L i j (item_of c k) no_item ne) (sym (get_or-items p n j S C h))))
+      rw (cube_at-put_above p i c S here size j b, get_or-set_other C i j k blank ne, get_or-set_other L i j (item_of c k) no_item ne) (sym (get_or-items p n j S C h))))
       (cases_order j i))
 
-  pub items-card : (k : Card) → items_of p n S (set C i k) ≡ set (items_of p n S C) i (item_of (cube_at p i S) k)
-  items-card k =
+  pub items_card : (k : Card) → items_of p n S (set C i k) ≡ set (items_of p n S C) i (item_of (cube_at p i S) k)
+  items_card k =
       let L = items_of p n S C in
       let x = item_of (cube_at p i S) k in
       let l : length L ≡ n = length_items p n S C in
-      let in-L : i < length L = omega arith in
+      let in_L : i < length L = omega arith in
       let in-C : i < length C = omega arith in
       same_items p n S (set C i k) (set L i x) (length-set L i x ∙ l) (λ j h.
-      ⊎_elim (λ (e : j ≡ i). rw e (rw (get_or-set_same C i k blank in-C, get_or-set_same L i x no_item in-L)))
+      ⊎_elim (λ (e : j ≡ i). rw e (rw (get_or-set_same C i k blank in-C, get_or-set_same L i x no_item in_L)))
       (⊎_elim
       (λ (b : j < i). let ne : j ≢ i = omega arith in rw (get_or-set_other C i j k blank ne, get_or-set_other L i j x no_item ne) (sym (get_or-items p n j S C h)))
       (λ (b : i < j). let ne : j ≢ i = omega arith in rw (get_or-set_other C i j k blank ne, get_or-set_other L i j x no_item ne) (sym (get_or-items p n j S C h))))

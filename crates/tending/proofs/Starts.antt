@@ -36,9 +36,9 @@ module _ (p n : ℕ) (S : List ℕ) where
       get_or-carded (cubes p n S) 0 (cubes p n S) i l ∙ rw (get_or-cubes p n i S h, e)
 
   -- the first i cards are written
-  pub start-more : (i : ℕ) (N : List Card) → i < n → i < length N → take i N ≡ cards_of (take i (started (cubes p n S)))
+  pub start_more : (i : ℕ) (N : List Card) → i < n → i < length N → take i N ≡ cards_of (take i (started (cubes p n S)))
       → take (i + 1) (set N i (card_of (start_item p n S i))) ≡ cards_of (take (i + 1) (started (cubes p n S)))
-  start-more i N h m e =
+  start_more i N h m e =
       let L = started (cubes p n S) in
       let l : i < length L = omega (arith, length-started) in
       take_more_set N i (card_of (start_item p n S i)) m
@@ -51,8 +51,8 @@ module _ (p n : ℕ) (S : List ℕ) where
       let L = started (cubes p n S) in
       overlay_is n (cards_of L) N E (length-map L card_of ∙ length-started) (t ∙ ap cards_of (take_all n L (omega (arith, length-started)))) d
 
-  pub start-items : (E : List Card) → items_of p n S (overlay (cards_of (started (cubes p n S))) E) ≡ started (cubes p n S)
-  start-items E =
+  pub start_items : (E : List Card) → items_of p n S (overlay (cards_of (started (cubes p n S))) E) ≡ started (cubes p n S)
+  start_items E =
       let L = started (cubes p n S) in
       let C = cards_of L in
       same_items p n S (overlay C E) L length-started (λ i h.

@@ -37,8 +37,8 @@ module _ {X : Type 0} (s : X → ℕ) (xs ys : List X) (i : ℕ) where
   none' [] = refl
   none' (a ∷ A) = refl
 
-  pub shared-end : min (length xs) (length ys) ≤ i → shared (drop i (map s xs)) (drop i (map s ys)) ≡ 0
-  shared-end h =
+  pub shared_end : min (length xs) (length ys) ≤ i → shared (drop i (map s xs)) (drop i (map s ys)) ≡ 0
+  shared_end h =
       ⊎_elim (λ (l : i < length xs). ap (shared (drop i (map s xs))) (left-none s ys i (omega arith)) ∙ none' (drop i (map s xs)))
       (λ (l : length xs ≤ i). ap (λ A. shared A (drop i (map s ys))) (left-none s xs i l) ∙ none (drop i (map s ys)))
       (cases_lt i (length xs))
@@ -57,6 +57,6 @@ module _ (p n i : ℕ) (c : Cube) (S : List ℕ) where
       ap (weighed c) (drop_more (cubes p n S) i [] l)
       ∙ ap (λ d. shared c d + weighed c (drop (i + 1) (cubes p n S))) (get_or-cubes p n i S h)
 
-  pub weighed-end : n ≤ i → weighed c (drop i (cubes p n S)) ≡ 0
+  pub weighed_end : n ≤ i → weighed c (drop i (cubes p n S)) ≡ 0
   unfolding weighed
-  weighed-end h = ap (weighed c) (drop_all i (cubes p n S) (omega (arith, length-cubes p n S)))
+  weighed_end h = ap (weighed c) (drop_all i (cubes p n S) (omega (arith, length-cubes p n S)))

@@ -7,8 +7,8 @@ use Rattle.cubes.specs.Areas.{cube_at, put_at}
 use Rattle.cubes.proofs.Areas.{next_place, length-cube_at}
 
 module _ {X : Type 0} (from p : ℕ) (xs : List X) (fits : from + (p + p) ≤ length xs) where
-  copied-read : (j : ℕ) (d : X) → j < p → get_or (paste xs (from + p) (take p (drop from xs)) j) (from + j) d ≡ get_or (take p (drop from xs)) j d
-  copied-read j d h =
+  copied_read : (j : ℕ) (d : X) → j < p → get_or (paste xs (from + p) (take p (drop from xs)) j) (from + j) d ≡ get_or (take p (drop from xs)) j d
+  copied_read j d h =
       let front : length (take (from + p) xs) ≡ from + p = simp length-take (omega arith) in
       let le : from + p ≤ length (take (from + p) xs ++ take j (take p (drop from xs))) = simp length-append (omega arith) in
       let le' : from + p ≤ length (take (from + p) xs) = omega arith in
@@ -20,7 +20,7 @@ module _ {X : Type 0} (from p : ℕ) (xs : List X) (fits : from + (p + p) ≤ le
   pub copied_more : (j : ℕ) (ys : List X) (x : X) → j < p → ys ≡ paste xs (from + p) (take p (drop from xs)) j → x ≡ get_or ys (from + j) x → set ys (from + p + j) x ≡ paste xs (from + p) (take p (drop from xs)) (j + 1)
   copied_more j ys x h inv e =
       let size : length (take p (drop from xs)) ≡ p = simp (length-take, length-drop) (omega arith) in
-      let e' : x ≡ get_or (take p (drop from xs)) j x = e ∙ ap (λ l. get_or l (from + j) x) inv ∙ copied-read j x h in
+      let e' : x ≡ get_or (take p (drop from xs)) j x = e ∙ ap (λ l. get_or l (from + j) x) inv ∙ copied_read j x h in
       ap (λ l. set l (from + p + j) x) inv ∙ ap (set (paste xs (from + p) (take p (drop from xs)) j) (from + p + j)) e' ∙ paste_more xs (from + p) (take p (drop from xs)) j x (omega arith) (omega arith)
 
 pub copied_all : {X : Type 0} (t p : ℕ) (xs : List X) → t * p + (p + p) ≤ length xs → paste xs (t * p + p) (take p (drop (t * p) xs)) p ≡ put_at p (t + 1) (cube_at p t xs) xs

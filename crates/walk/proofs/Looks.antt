@@ -49,22 +49,22 @@ module _ (p n j : ℕ) (ls : List ℕ) (c : Cube) (h : j < n) where
   row-passed : meets c (cube_at p j ls) ≡ false → look_of c j (drop j (cubes p n ls)) ≡ look_of c (j + 1) (drop (j + 1) (cubes p n ls))
   row-passed m = row_step ∙ rw m
 
-  row-gone : meets c (cube_at p j ls) ≡ true → covers (cube_at p j ls) c ≡ true → look_of c j (drop j (cubes p n ls)) ≡ Gone
-  row-gone m k = row_step ∙ rw (m, k)
+  row_gone : meets c (cube_at p j ls) ≡ true → covers (cube_at p j ls) c ≡ true → look_of c j (drop j (cubes p n ls)) ≡ Gone
+  row_gone m k = row_step ∙ rw (m, k)
 
-  row-met : meets c (cube_at p j ls) ≡ true → covers (cube_at p j ls) c ≡ false → look_of c j (drop j (cubes p n ls)) ≡ after j (look_of c (j + 1) (drop (j + 1) (cubes p n ls)))
-  row-met m k = row_step ∙ rw (m, k)
+  row_met : meets c (cube_at p j ls) ≡ true → covers (cube_at p j ls) c ≡ false → look_of c j (drop j (cubes p n ls)) ≡ after j (look_of c (j + 1) (drop (j + 1) (cubes p n ls)))
+  row_met m k = row_step ∙ rw (m, k)
 
   -- a turn: where what was found and the rows from j on come to o
   module _ (f o : Look) (inv : onto f (look_of c j (drop j (cubes p n ls))) ≡ o) where
-    pub found-gone : meets c (cube_at p j ls) ≡ true → covers (cube_at p j ls) c ≡ true → Gone ≡ o
-    found-gone m k = sym (ap (onto f) (row-gone m k) ∙ onto_gone f) ∙ inv
+    pub found_gone : meets c (cube_at p j ls) ≡ true → covers (cube_at p j ls) c ≡ true → Gone ≡ o
+    found_gone m k = sym (ap (onto f) (row_gone m k) ∙ onto_gone f) ∙ inv
 
     pub found_first : (f' : Look) → f ≡ Free → f' ≡ Cut j → meets c (cube_at p j ls) ≡ true → covers (cube_at p j ls) c ≡ false → onto f' (look_of c (j + 1) (drop (j + 1) (cubes p n ls))) ≡ o
-    found_first f' e e' m k = ap (λ y. onto y (look_of c (j + 1) (drop (j + 1) (cubes p n ls)))) e' ∙ sym (row-met m k) ∙ sym (ap (λ y. onto y (look_of c j (drop j (cubes p n ls)))) e) ∙ inv
+    found_first f' e e' m k = ap (λ y. onto y (look_of c (j + 1) (drop (j + 1) (cubes p n ls)))) e' ∙ sym (row_met m k) ∙ sym (ap (λ y. onto y (look_of c j (drop j (cubes p n ls)))) e) ∙ inv
 
-    pub found-later : (f' : Look) → (f ≡ Free → ⊥) → f' ≡ f → meets c (cube_at p j ls) ≡ true → covers (cube_at p j ls) c ≡ false → onto f' (look_of c (j + 1) (drop (j + 1) (cubes p n ls))) ≡ o
-    found-later f' e e' m k = ap (λ y. onto y (look_of c (j + 1) (drop (j + 1) (cubes p n ls)))) e' ∙ sym (ap (onto f) (row-met m k) ∙ onto-after f j (look_of c (j + 1) (drop (j + 1) (cubes p n ls))) e) ∙ inv
+    pub found_later : (f' : Look) → (f ≡ Free → ⊥) → f' ≡ f → meets c (cube_at p j ls) ≡ true → covers (cube_at p j ls) c ≡ false → onto f' (look_of c (j + 1) (drop (j + 1) (cubes p n ls))) ≡ o
+    found_later f' e e' m k = ap (λ y. onto y (look_of c (j + 1) (drop (j + 1) (cubes p n ls)))) e' ∙ sym (ap (onto f) (row_met m k) ∙ onto-after f j (look_of c (j + 1) (drop (j + 1) (cubes p n ls))) e) ∙ inv
 
     pub found_none : (f' : Look) → f' ≡ f → meets c (cube_at p j ls) ≡ false → onto f' (look_of c (j + 1) (drop (j + 1) (cubes p n ls))) ≡ o
     found_none f' e' m = ap (λ y. onto y (look_of c (j + 1) (drop (j + 1) (cubes p n ls)))) e' ∙ sym (ap (onto f) (row-passed m)) ∙ inv

@@ -35,8 +35,8 @@ module _ {X : Type 0} (s : X → ℕ) (a a0 b : List X) (j : ℕ) (x y v : X) (l
       let ev : s v ≡ f (get_or (map s a) j 0) (get_or (map s b) j 0) = rw (rx, ry) e in
       map-set s a j v ∙ ap (set (map s a) j) ev ∙ ap (λ l. set l j (f (get_or l j 0) (get_or (map s b) j 0))) inv
 
-  pub mixed-more : s v ≡ bit_and (s x) (s y) → map s (set a j v) ≡ mixed (j + 1) (map s a0) (map s b)
-  mixed-more e =
+  pub mixed_more : s v ≡ bit_and (s x) (s y) → map s (set a j v) ≡ mixed (j + 1) (map s a0) (map s b)
+  mixed_more e =
       let h' : j < length (map s a0) = rw length-map h in
       let l' : length (map s b) ≡ length (map s a0) = simp length-map lb in
       written bit_and e ∙ rw add-one (mixed-suc j (map s a0) (map s b) h' l')

@@ -4,7 +4,7 @@ use Rattle.std.proofs.lemmas.List.{append_assoc, get_or-take, get_or-drop, take-
 use Rattle.parts.specs.Sets.{minus, some}
 use Rattle.cubes.specs.Areas.{cube_at, put_at}
 use Rattle.cubes.specs.Cubes.{Cover}
-use Rattle.cubes.proofs.Areas.{next_place, place_below, cube_at-front, take_put, length-put, cubeAt-put, cubeAt-put-above, cubeAt-put-below, length-cube_at}
+use Rattle.cubes.proofs.Areas.{next_place, place_below, cube_at-front, take_put, length-put, cube_at-put, cube_at-put_above, cube_at-put_below, length-cube_at}
 use Rattle.cubes.proofs.Pairs.{read_set, empty_is}
 use Rattle.walk.specs.Stack.{Task, stack_of, numbered, piece, piece_at}
 use Rattle.walk.proofs.Pieces.{pieces_from, length-piece, pieces_step}
@@ -32,7 +32,7 @@ pub stack_put : (p t v : ℕ) (c ws ns : List ℕ) → t * p + p ≤ length ws �
 stack_put p t v c ws ns h l e =
     let tail = stack_front p t (put_at p t c ws) ws (set ns t v) ns (take_put p t c ws h e (t * p) (omega arith)) (take-set-le t ns t v (omega arith)) in
     let number = get_or-set_same ns t v 0 l in
-    let cube = cubeAt-put p t c ws h e in
+    let cube = cube_at-put p t c ws h e in
     rw add-one (cc)
 
 -- room for two cubes from t on
@@ -78,13 +78,13 @@ module _ (p t k next : ℕ) (ws us vs ns ms b : List ℕ) (h : t * p + (p + p) �
   moved_length = ap length d ∙ length-put p (t + 1) (cube_at p t ws) ws moved-fits moved-size
 
   moved-cube : cube_at p t us ≡ cube_at p t ws
-  moved-cube = ap (cube_at p t) d ∙ cubeAt-put-below p (t + 1) (cube_at p t ws) ws moved-fits moved-size t (omega arith)
+  moved-cube = ap (cube_at p t) d ∙ cube_at-put_below p (t + 1) (cube_at p t ws) ws moved-fits moved-size t (omega arith)
 
   moved-stack : stack_of p t us ns ≡ stack_of p t ws ns
   moved-stack = stack_front p t us ws ns ns (ap (take (t * p)) d ∙ take_put p (t + 1) (cube_at p t ws) ws moved-fits moved-size (t * p) (omega (arith, next_place t p))) refl
 
-  pub push-stack : stack_of p (t + 1) vs ms ≡ (next, piece k (cube_at p t ws) b) ∷ stack_of p t ws ns
-  push-stack =
+  pub push_stack : stack_of p (t + 1) vs ms ≡ (next, piece k (cube_at p t ws) b) ∷ stack_of p t ws ns
+  push_stack =
       let len = moved_length in
       put_stack p t k next us vs ns ms b (omega arith) l e f ∙ rw (moved-cube, moved-stack)
 
@@ -93,7 +93,7 @@ module _ (p t k next : ℕ) (ws us vs ns ms b : List ℕ) (h : t * p + (p + p) �
       let len = moved_length in
       let fits : t * p + p ≤ length us = omega arith in
       let size : length (piece k (cube_at p t us) b) ≡ p = length-piece k (cube_at p t us) b ∙ length-cube_at p t us fits in
-      ap (cube_at p (t + 1)) e ∙ cubeAt-put-above p t (piece k (cube_at p t us) b) us fits size (t + 1) (omega arith) ∙ ap (cube_at p (t + 1)) d ∙ cubeAt-put p (t + 1) (cube_at p t ws) ws moved-fits moved-size
+      ap (cube_at p (t + 1)) e ∙ cube_at-put_above p t (piece k (cube_at p t us) b) us fits size (t + 1) (omega arith) ∙ ap (cube_at p (t + 1)) d ∙ cube_at-put p (t + 1) (cube_at p t ws) ws moved-fits moved-size
 
 pub numbered-append : (n : ℕ) (C D : Cover) → numbered n (C ++ D) ≡ numbered n C ++ numbered n D
 numbered-append n [] D = refl

@@ -115,8 +115,8 @@ module _ {X : Type 0} {s : X → ℕ} {p n most : ℕ} {list start before work :
   total-length : length total ≡ count + length (pending rows stack)
   total-length = ap length (sym w.all) ∙ length-append done (pending rows stack) ∙ ap (λ m. m + length (pending rows stack)) (length-cubes p count (map s out))
 
-  out-is : take most total ≡ done → map s out ≡ overlay (flat (take most total)) (map s before)
-  out-is e =
+  out_is : take most total ≡ done → map s out ≡ overlay (flat (take most total)) (map s before)
+  out_is e =
       let long : count * p ≤ length (map s out) = rw length-map (omega (arith, w.space, mul-le-mul_right {m = count} {n = most} p w.count_most)) in
       let past : drop (count * p) (map s out) ≡ drop (count * p) (map s before) = drop-map s (count * p) out ∙ ap (map s) w.stays ∙ sym (drop-map s (count * p) before) in
       overlay-cubes p count (map s out) (map s before) long past ∙ ap (λ C. overlay (flat C) (map s before)) (sym e)
@@ -127,19 +127,19 @@ module _ {X : Type 0} {s : X → ℕ} {p n most : ℕ} {list start before work :
     nothing : pending rows stack ≡ []
     nothing = ap (λ d. pending rows (stack_of p d (map s work) ns)) none
 
-    end-length : length total ≡ count
-    end-length = omega (arith, total-length, ap length nothing)
+    end_length : length total ≡ count
+    end_length = omega (arith, total-length, ap length nothing)
 
-    pub end-count : count ≡ min most (length total)
-    end-count = omega (arith, end-length, w.count_most)
+    pub end_count : count ≡ min most (length total)
+    end_count = omega (arith, end_length, w.count_most)
 
     pub end_whole : true ≡ leb (length total) most
-    end_whole = sym (le-leb (length total) most (omega (arith, end-length, w.count_most)))
+    end_whole = sym (le-leb (length total) most (omega (arith, end_length, w.count_most)))
 
-    pub end-written : map s out ≡ overlay (flat (take most total)) (map s before)
-    end-written =
+    pub end_written : map s out ≡ overlay (flat (take most total)) (map s before)
+    end_written =
         let is : total ≡ done = sym w.all ∙ ap (λ l. done ++ l) nothing ∙ append-nil done in
-        out-is (take_all most total (omega (arith, end-length, w.count_most)) ∙ is)
+        out_is (take_all most total (omega (arith, end_length, w.count_most)) ∙ is)
 
   -- ---- there is a piece on top
 
@@ -160,11 +160,11 @@ module _ {X : Type 0} {s : X → ℕ} {p n most : ℕ} {list start before work :
     top_placed : Placed (p - 1) n ((number, top) ∷ under)
     top_placed = subst (Placed (p - 1) n) stack_is w.placed
 
-    pub depth-most : depth ≤ 1 + (p - 1) * n
-    depth-most = omega (arith, placed-length (p - 1) n stack w.placed, length_stack p depth (map s work) ns)
+    pub depth_most : depth ≤ 1 + (p - 1) * n
+    depth_most = omega (arith, placed-length (p - 1) n stack w.placed, length_stack p depth (map s work) ns)
 
     pub top-fits : (depth - 1) * p + p ≤ length work
-    top-fits = omega (arith, w.fits, one-mul p, room_cubes p n (depth - 1) 1 (omega (arith, depth-most)))
+    top-fits = omega (arith, w.fits, one-mul p, room_cubes p n (depth - 1) 1 (omega (arith, depth_most)))
 
     top-size : length top ≡ p
     top-size = length-cube_at p (depth - 1) (map s work) (rw length-map top-fits)
@@ -178,15 +178,15 @@ module _ {X : Type 0} {s : X → ℕ} {p n most : ℕ} {list start before work :
       said = ap (λ x. look_of x number (drop number rows)) (sym (ap (map s) read ∙ map-cube_at s p (depth - 1) work)) ∙ sym look
 
       -- some row covers it
-      gone-pending : r ≡ Gone → pending rows under ≡ pending rows stack
-      gone-pending e =
+      gone_pending : r ≡ Gone → pending rows under ≡ pending rows stack
+      gone_pending e =
           let wide : Wide (length top) rows = rw top-size (wide_cubes p n (map s list) (rw length-map w.listed)) in
           let none = look_gone top number (drop number rows) (All-drop _ number rows wide) (said ∙ e) in
           sym (ap (pending rows) stack_is ∙ ap (λ l. l ++ pending rows under) none)
 
-      pub gone-walked : r ≡ Gone → Walked s p n most list start before work ns out (depth - 1) count
-      gone-walked e = record {
-        all = ap (λ l. done ++ l) (gone-pending e) ∙ w.all;
+      pub gone_walked : r ≡ Gone → Walked s p n most list start before work ns out (depth - 1) count
+      gone_walked e = record {
+        all = ap (λ l. done ++ l) (gone_pending e) ∙ w.all;
         placed = top_placed.2;
         count_most = w.count_most;
         stays = w.stays;
@@ -196,13 +196,13 @@ module _ {X : Type 0} {s : X → ℕ} {p n most : ℕ} {list start before work :
       }
 
       -- no row meets it
-      free-pending : r ≡ Free → top ∷ pending rows under ≡ pending rows stack
-      free-pending e = sym (ap (pending rows) stack_is ∙ ap (λ l. l ++ pending rows under) (look_free top number (drop number rows) (said ∙ e)))
+      free_pending : r ≡ Free → top ∷ pending rows under ≡ pending rows stack
+      free_pending e = sym (ap (pending rows) stack_is ∙ ap (λ l. l ++ pending rows under) (look_free top number (drop number rows) (said ∙ e)))
 
       -- there is room for no more
       module _ (e : r ≡ Free) (full : count ≡ most) where
         full-length : most < length total
-        full-length = omega (arith, total-length, ap length (free-pending e))
+        full-length = omega (arith, total-length, ap length (free_pending e))
 
         pub full-count : count ≡ min most (length total)
         full-count = omega (arith, full-length)
@@ -211,36 +211,36 @@ module _ {X : Type 0} {s : X → ℕ} {p n most : ℕ} {list start before work :
         full-whole = sym (lt-leb (length total) most full-length)
 
         pub full-written : map s out ≡ overlay (flat (take most total)) (map s before)
-        full-written = out-is (ap (take most) (sym w.all) ∙ take_at done (pending rows stack) most (length-cubes p count (map s out) ∙ full))
+        full-written = out_is (ap (take most) (sym w.all) ∙ take_at done (pending rows stack) most (length-cubes p count (map s out) ∙ full))
 
       -- it is written
-      pub free-space : (count ≡ most → ⊥) → count * p + p ≤ length out
-      free-space less = omega (arith, w.space, place_below count most p (omega (arith, w.count_most)))
+      pub free_space : (count ≡ most → ⊥) → count * p + p ≤ length out
+      free_space less = omega (arith, w.space, place_below count most p (omega (arith, w.count_most)))
 
       module _ (e : r ≡ Free) (less : count ≡ most → ⊥) (copied dst : List X) (read' : copied ≡ cube_at p (depth - 1) work) (write : dst ≡ put_at p count copied out) where
-        copied-size : length copied ≡ p
-        copied-size = ap length read' ∙ length-cube_at p (depth - 1) work top-fits
+        copied_size : length copied ≡ p
+        copied_size = ap length read' ∙ length-cube_at p (depth - 1) work top-fits
 
-        dst-is : map s dst ≡ put_at p count top (map s out)
-        dst-is = ap (map s) write ∙ map-put s p count copied out ∙ ap (λ x. put_at p count x (map s out)) (ap (map s) read' ∙ map-cube_at s p (depth - 1) work)
+        dst_is : map s dst ≡ put_at p count top (map s out)
+        dst_is = ap (map s) write ∙ map-put s p count copied out ∙ ap (λ x. put_at p count x (map s out)) (ap (map s) read' ∙ map-cube_at s p (depth - 1) work)
 
-        dst-cubes : cubes p (count + 1) (map s dst) ≡ done ++ (top ∷ [])
-        dst-cubes = ap (cubes p (count + 1)) dst-is ∙ cubes-put p count top (map s out) (rw length-map (free-space less)) top-size
+        dst_cubes : cubes p (count + 1) (map s dst) ≡ done ++ (top ∷ [])
+        dst_cubes = ap (cubes p (count + 1)) dst_is ∙ cubes-put p count top (map s out) (rw length-map (free_space less)) top-size
 
-        dst-stays : drop ((count + 1) * p) dst ≡ drop ((count + 1) * p) before
-        dst-stays =
+        dst_stays : drop ((count + 1) * p) dst ≡ drop ((count + 1) * p) before
+        dst_stays =
             let next = next_place count p in
-            ap (drop ((count + 1) * p)) write ∙ drop-put p count copied out (free-space less) copied-size ((count + 1) * p) (omega arith)
+            ap (drop ((count + 1) * p)) write ∙ drop-put p count copied out (free_space less) copied_size ((count + 1) * p) (omega arith)
             ∙ rw next (sym (drop-drop p (count * p) out) ∙ ap (drop p) w.stays ∙ drop-drop p (count * p) before)
 
-        pub free-walked : Walked s p n most list start before work ns dst (depth - 1) (count + 1)
-        free-walked = record {
-          all = ap (λ x. x ++ pending rows under) dst-cubes ∙ append_assoc done (top ∷ []) (pending rows under) ∙ ap (λ x. done ++ x) (free-pending e) ∙ w.all;
+        pub free_walked : Walked s p n most list start before work ns dst (depth - 1) (count + 1)
+        free_walked = record {
+          all = ap (λ x. x ++ pending rows under) dst_cubes ∙ append_assoc done (top ∷ []) (pending rows under) ∙ ap (λ x. done ++ x) (free_pending e) ∙ w.all;
           placed = top_placed.2;
           count_most = omega (arith, w.count_most);
-          stays = dst-stays;
+          stays = dst_stays;
           fits = w.fits;
-          space = omega (arith, w.space, ap length write, length-put p count copied out (free-space less) copied-size);
+          space = omega (arith, w.space, ap length write, length-put p count copied out (free_space less) copied_size);
           listed = w.listed;
         }
 
@@ -268,23 +268,23 @@ module _ {X : Type 0} {s : X → ℕ} {p n most : ℕ} {list start before work :
 
         -- its pieces outside the row are put in its place
         module _ (row vs : List X) (ms : List ℕ) (d : ℕ) (read' : row ≡ cube_at p j list) (made : stack_of p d (map s vs) ms ≡ numbered (j + 1) (pieces top (map s row)) ++ under) where
-          made-is : stack_of p d (map s vs) ms ≡ numbered (j + 1) (pieces top (get_or rows j [])) ++ under
-          made-is = made ∙ ap (λ b. numbered (j + 1) (pieces top b) ++ under) (ap (map s) read' ∙ map-cube_at s p j list ∙ sym (get_or-cubes p n j (map s list) cut_below))
+          made_is : stack_of p d (map s vs) ms ≡ numbered (j + 1) (pieces top (get_or rows j [])) ++ under
+          made_is = made ∙ ap (λ b. numbered (j + 1) (pieces top b) ++ under) (ap (map s) read' ∙ map-cube_at s p j list ∙ sym (get_or-cubes p n j (map s list) cut_below))
 
           few-pieces : length (pieces top (get_or rows j [])) ≤ p
           few-pieces = omega (arith, length-pieces top (get_or rows j []), top-size)
 
           pub cut-weight : weight p n (stack_of p d (map s vs) ms) < weight p n stack
-          cut-weight = rw (made-is, stack_is) (weight-cut p n number j (pieces top (get_or rows j [])) top under from cut_below few-pieces)
+          cut-weight = rw (made_is, stack_is) (weight-cut p n number j (pieces top (get_or rows j [])) top under from cut_below few-pieces)
 
           cut-placed : Placed (p - 1) n (stack_of p d (map s vs) ms)
-          cut-placed = subst (Placed (p - 1) n) (sym made-is) (placed-cut (p - 1) n j (pieces top (get_or rows j [])) under under-few cut_below (omega (arith, few-pieces)) top_placed.2)
+          cut-placed = subst (Placed (p - 1) n) (sym made_is) (placed-cut (p - 1) n j (pieces top (get_or rows j [])) under under-few cut_below (omega (arith, few-pieces)) top_placed.2)
 
           cut-pending : pending rows (stack_of p d (map s vs) ms) ≡ pending rows stack
-          cut-pending = ap (pending rows) made-is ∙ pending-cut rows number (j + 1) top (pieces top (get_or rows j [])) under (cut_left n number j rows top (length-cubes p n (map s list)) top_placed.1 (said ∙ e)) ∙ sym (ap (pending rows) stack_is)
+          cut-pending = ap (pending rows) made_is ∙ pending-cut rows number (j + 1) top (pieces top (get_or rows j [])) under (cut_left n number j rows top (length-cubes p n (map s list)) top_placed.1 (said ∙ e)) ∙ sym (ap (pending rows) stack_is)
 
-          pub cut-walked : length vs ≡ length work → Walked s p n most list start before vs ms out d count
-          cut-walked same = record {
+          pub cut_walked : length vs ≡ length work → Walked s p n most list start before vs ms out d count
+          cut_walked same = record {
             all = ap (λ l. done ++ l) cut-pending ∙ w.all;
             placed = cut-placed;
             count_most = w.count_most;

@@ -2,7 +2,7 @@ use Rattle.std.proofs.Common.{ℕ, ◌+◌, ◌^◌, ◌<◌, ◌≤◌, List, [
 use Rattle.std.proofs.lemmas.List.{length-set}
 use Rattle.std.proofs.lemmas.Fmt.{length-decimal-le}
 use Rattle.listing.specs.Text.{heading_line, Wrote}
-use Rattle.listing.proofs.Placed.{wrote_one, wrote_push, wrote-more}
+use Rattle.listing.proofs.Placed.{wrote_one, wrote_push, wrote_more}
 use Rattle.listing.proofs.write_heading.Goals as goal
 
 few_digits : (n : ℕ) → n < 2 ^ 64 → length (decimal n) ≤ 20
@@ -14,7 +14,7 @@ whole : (n : ℕ) (xs last : List ℕ) (end : ℕ) → 24 ≤ length xs → n < 
 whole n xs last end h k w =
     let letter : Wrote 0 (76 ∷ []) xs (set xs 0 76) 1 = wrote_one 0 xs (76 ∷ []) 76 (omega arith) refl in
     let front : Wrote 0 (76 ∷ 32 ∷ []) xs (set (set xs 0 76) 1 32) 2 = wrote_push 0 (76 ∷ []) xs (set xs 0 76) 1 letter (omega arith) 32 in
-    let digits : Wrote 0 (76 ∷ 32 ∷ decimal n) xs last end = wrote-more 0 (76 ∷ 32 ∷ []) xs (set (set xs 0 76) 1 32) 2 front (omega arith) (decimal n) last end w in
+    let digits : Wrote 0 (76 ∷ 32 ∷ decimal n) xs last end = wrote_more 0 (76 ∷ 32 ∷ []) xs (set (set xs 0 76) 1 32) 2 front (omega arith) (decimal n) last end w in
     wrote_push 0 (76 ∷ 32 ∷ decimal n) xs last end digits (omega (arith, w.place, few_digits n k)) 10
 
 pub write_decimal-end-requires : goal.write_decimal-end-requires

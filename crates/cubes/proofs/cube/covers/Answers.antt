@@ -1,7 +1,7 @@
 use Rattle.std.proofs.Common.{◌≡◌, ℕ, ◌<◌, Bool, true, false, eqb, [], ◌∷◌, map, length, refl, arith}
 use Rattle.parts.specs.Sets.{minus}
 use Rattle.cubes.specs.Cubes.{covers}
-use Rattle.cubes.proofs.Pairs.{empty_is, pair-true, pair-false, pair_none}
+use Rattle.cubes.proofs.Pairs.{empty_is, pair_true, pair_false, pair_none}
 use Rattle.cubes.proofs.cube.covers.Goals as goal
 
 abbrev test : ℕ → ℕ → Bool
@@ -15,7 +15,7 @@ returns-then-not-is_empty g c =
     let ha : c.loop-i.i < length c.args.a.now = omega arith in
     let hb : c.loop-i.i < length c.args.b.now = omega arith in
     let t : test (s x) (s y) ≡ false = empty_is _ (minus (s y) (s x)) _ _ c.outside.ensures.value c.is_empty.ensures.value c.if-not-is_empty.true in
-    pair-false covers test (λ _ _ _ _. refl) s c.args.a.now c.args.b.now c.loop-i.i x y ha hb c.index-a-i.is c.index-b-i.is t (covers (map s c.args.a.now) (map s c.args.b.now)) c.loop-i.invariant
+    pair_false covers test (λ _ _ _ _. refl) s c.args.a.now c.args.b.now c.loop-i.i x y ha hb c.index-a-i.is c.index-b-i.is t (covers (map s c.args.a.now) (map s c.args.b.now)) c.loop-i.invariant
 
 pub loop-i-preserved : goal.loop-i-preserved
 loop-i-preserved g c =
@@ -25,7 +25,7 @@ loop-i-preserved g c =
     let ha : c.loop-i.i < length c.args.a.now = omega arith in
     let hb : c.loop-i.i < length c.args.b.now = omega arith in
     let t : test (s x) (s y) ≡ true = empty_is _ (minus (s y) (s x)) _ _ c.outside.ensures.value c.is_empty.ensures.value c.if-not-is_empty.false in
-    pair-true covers test (λ _ _ _ _. refl) s c.args.a.now c.args.b.now c.loop-i.i x y ha hb c.index-a-i.is c.index-b-i.is t (covers (map s c.args.a.now) (map s c.args.b.now)) c.loop-i.invariant
+    pair_true covers test (λ _ _ _ _. refl) s c.args.a.now c.args.b.now c.loop-i.i x y ha hb c.index-a-i.is c.index-b-i.is t (covers (map s c.args.a.now) (map s c.args.b.now)) c.loop-i.invariant
 
 pub returns : goal.returns
 returns g c =

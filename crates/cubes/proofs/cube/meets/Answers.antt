@@ -2,7 +2,7 @@ use Rattle.std.proofs.Common.{◌≡◌, ℕ, ◌<◌, Bool, true, false, not, [
 use lib.Bits.{bit_and}
 use Rattle.parts.specs.Sets.{some}
 use Rattle.cubes.specs.Cubes.{meets}
-use Rattle.cubes.proofs.Pairs.{empty_is, pair-true, pair-false, pair_none}
+use Rattle.cubes.proofs.Pairs.{empty_is, pair_true, pair_false, pair_none}
 use Rattle.cubes.proofs.cube.meets.Goals as goal
 
 abbrev test : ℕ → ℕ → Bool
@@ -16,7 +16,7 @@ returns-then-is_empty g c =
     let ha : c.loop-i.i < length c.args.a.now = omega arith in
     let hb : c.loop-i.i < length c.args.b.now = omega arith in
     let t : test (s x) (s y) ≡ false = ap not (empty_is _ (bit_and (s x) (s y)) _ _ c.common.ensures.value c.is_empty.ensures.value c.if-is_empty.true) in
-    pair-false meets test (λ _ _ _ _. refl) s c.args.a.now c.args.b.now c.loop-i.i x y ha hb c.index-a-i.is c.index-b-i.is t (meets (map s c.args.a.now) (map s c.args.b.now)) c.loop-i.invariant
+    pair_false meets test (λ _ _ _ _. refl) s c.args.a.now c.args.b.now c.loop-i.i x y ha hb c.index-a-i.is c.index-b-i.is t (meets (map s c.args.a.now) (map s c.args.b.now)) c.loop-i.invariant
 
 pub loop-i-preserved : goal.loop-i-preserved
 loop-i-preserved g c =
@@ -26,7 +26,7 @@ loop-i-preserved g c =
     let ha : c.loop-i.i < length c.args.a.now = omega arith in
     let hb : c.loop-i.i < length c.args.b.now = omega arith in
     let t : test (s x) (s y) ≡ true = ap not (empty_is _ (bit_and (s x) (s y)) _ _ c.common.ensures.value c.is_empty.ensures.value c.if-is_empty.false) in
-    pair-true meets test (λ _ _ _ _. refl) s c.args.a.now c.args.b.now c.loop-i.i x y ha hb c.index-a-i.is c.index-b-i.is t (meets (map s c.args.a.now) (map s c.args.b.now)) c.loop-i.invariant
+    pair_true meets test (λ _ _ _ _. refl) s c.args.a.now c.args.b.now c.loop-i.i x y ha hb c.index-a-i.is c.index-b-i.is t (meets (map s c.args.a.now) (map s c.args.b.now)) c.loop-i.invariant
 
 pub returns : goal.returns
 returns g c =

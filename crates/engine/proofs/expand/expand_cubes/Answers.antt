@@ -5,7 +5,7 @@ use Rattle.moves.specs.Expand.{expanding}
 use Rattle.moves.specs.Items.{cubes_of, started, taking, first_of, waits}
 use Rattle.tending.specs.Items.{items_of}
 use Rattle.tending.proofs.Places.{cubes_items}
-use Rattle.engine.proofs.Turns.{first_item, turned_none, turned-some, turned-skip, turned-all, stays_behind, started_behind, expand_is}
+use Rattle.engine.proofs.Turns.{first_item, turned_none, turned_some, turned_skip, turned_all, stays_behind, started_behind, expand_is}
 use Rattle.engine.proofs.expand.expand_cubes.Goals as goal
 use Rattle.engine.proofs.expand.expand_cubes.Goals.{in-Some, in_default}
 
@@ -52,7 +52,7 @@ loop-i-preserved g c =
       | in-Some w ↦
           let first : first_of waits B L ≡ Some w.in-Some.at = sym (w.in-Some.ensures.value ∙ first_item p left S K B) in
           rw (w.solution-is, w.cards-is, w.left-is) (
-            turned-some B act n M i w.in-Some.at L (items_of p w.expand_one-left.result (map s w.expand_one-left.new.solution) w.expand_one-left.new.cards) c.loop-i-test.true first w.expand_one-left.ensures.items c.loop-i.invariant.0,
+            turned_some B act n M i w.in-Some.at L (items_of p w.expand_one-left.result (map s w.expand_one-left.new.solution) w.expand_one-left.new.cards) c.loop-i-test.true first w.expand_one-left.ensures.items c.loop-i.invariant.0,
             w.expand_one-left.ensures.apart,
             omega (arith, w.expand_one-left.ensures.most, c.loop-i.invariant.2),
             stays_behind (left * p) (n * p) w.expand_one-left.new.solution c.loop-i.solution less w.expand_one-left.ensures.parts ∙ c.loop-i.invariant.3,
@@ -61,7 +61,7 @@ loop-i-preserved g c =
       | in_default w ↦
           let first : first_of waits B L ≡ None = sym (w.in_default.ensures.value ∙ first_item p left S K B) in
           rw (w.solution-is, w.cards-is, w.left-is)
-          (turned-skip B act n M i L c.loop-i-test.true first c.loop-i.invariant.0, c.loop-i.invariant.1, c.loop-i.invariant.2, c.loop-i.invariant.3, c.loop-i.invariant.4)
+          (turned_skip B act n M i L c.loop-i-test.true first c.loop-i.invariant.0, c.loop-i.invariant.1, c.loop-i.invariant.2, c.loop-i.invariant.3, c.loop-i.invariant.4)
     ]
 
 pub returns : goal.returns
@@ -76,7 +76,7 @@ returns g c =
     let C = cubes p n (map s c.args.solution.now) in
     let S = map s c.loop-i.solution in
     let L = items_of p left S c.loop-i.cards in
-    let all : L ≡ taking n B (expanding U R) (started C) = turned-all B (expanding U R) n (started C) c.loop-i._i L c.loop-i-test.false c.loop-i.invariant.0 in
+    let all : L ≡ taking n B (expanding U R) (started C) = turned_all B (expanding U R) n (started C) c.loop-i._i L c.loop-i-test.false c.loop-i.invariant.0 in
     record {
       list = sym (cubes_items p left S c.loop-i.cards) ∙ ap cubes_of all ∙ expand_is B U R n C (length-cubes p n (map s c.args.solution.now));
       most = c.loop-i.invariant.2;

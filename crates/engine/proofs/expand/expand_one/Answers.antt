@@ -8,7 +8,7 @@ use Rattle.moves.specs.Sound.{Apart}
 use Rattle.moves.specs.Widen.{touches}
 use Rattle.tending.specs.Items.{items_of, only_at}
 use Rattle.tending.proofs.Places.{cubes_items}
-use Rattle.engine.proofs.Grown.{apart-at, grown-items, grown-apart}
+use Rattle.engine.proofs.Grown.{apart-at, grown_items, grown-apart}
 use Rattle.engine.proofs.Turns.{stays_behind}
 use Rattle.engine.proofs.expand.expand_one.Goals as goal
 
@@ -48,7 +48,7 @@ returns g c =
     let t : touches (cube_at p at S) R ≡ false = ap (λ f. touches f R) (sym (get_or-cubes p n at S c.requires.place)) ∙ apart-at R C at h c.requires.apart in
     let below = place_below at n p c.requires.place in
     let size : length (cube_at p at S) ≡ p = length-cube_at p at S (omega arith) in
-    let all = c.remove_covered.ensures.items ∙ ap (λ Y. only_at at (items_of p n Y K)) c.grow.ensures.sets ∙ grown-items p n S K fits c.requires.beside U R at c.requires.place wR t size in
+    let all = c.remove_covered.ensures.items ∙ ap (λ Y. only_at at (items_of p n Y K)) c.grow.ensures.sets ∙ grown_items p n S K fits c.requires.beside U R at c.requires.place wR t size in
     let T = map s c.remove_covered.new.solution in
     let r = c.remove_covered.result in
     record {

@@ -3,7 +3,7 @@ use Rattle.cubes.specs.Areas.{cubes}
 use Rattle.cubes.specs.Cubes.{meets}
 use Rattle.cubes.proofs.Areas.{place_below, length-cubes}
 use Rattle.engine.specs.Foreign.{first_met}
-use Rattle.engine.proofs.Meetings.{cube_test, met-here, met-later, met-none}
+use Rattle.engine.proofs.Meetings.{cube_test, met_here, met_later, met_none}
 use Rattle.engine.proofs.foreign.first_met.Goals as goal
 
 pub cube_at-requires : goal.cube_at-requires
@@ -16,7 +16,7 @@ returns-then-meets g c =
     let f = map s c.args.cube.now in
     let R = cubes c.args.p c.args.offs (map s off) in
     let test = cube_test s c.args.p c.args.offs c.loop-j.j off c.cube_at.result.now (meets f) c.meets.result c.loop-j-test.true c.cube_at.ensures c.meets.ensures in
-    met-here f R (first_met 0 f R) c.loop-j.j c.loop-j.invariant (omega (arith, length-cubes c.args.p c.args.offs (map s off))) (test ∙ c.if-meets.true)
+    met_here f R (first_met 0 f R) c.loop-j.j c.loop-j.invariant (omega (arith, length-cubes c.args.p c.args.offs (map s off))) (test ∙ c.if-meets.true)
 
 pub loop-j-preserved : goal.loop-j-preserved
 loop-j-preserved g c =
@@ -25,11 +25,11 @@ loop-j-preserved g c =
     let f = map s c.args.cube.now in
     let R = cubes c.args.p c.args.offs (map s off) in
     let test = cube_test s c.args.p c.args.offs c.loop-j.j off c.cube_at.result.now (meets f) c.meets.result c.loop-j-test.true c.cube_at.ensures c.meets.ensures in
-    met-later f R (first_met 0 f R) c.loop-j.j c.loop-j.invariant (omega (arith, length-cubes c.args.p c.args.offs (map s off))) (test ∙ c.if-meets.false)
+    met_later f R (first_met 0 f R) c.loop-j.j c.loop-j.invariant (omega (arith, length-cubes c.args.p c.args.offs (map s off))) (test ∙ c.if-meets.false)
 
 pub returns : goal.returns
 returns g c =
     let s = g.P.Part.set in
     let f = map s c.args.cube.now in
     let R = cubes c.args.p c.args.offs (map s c.args.off.now) in
-    met-none f R (first_met 0 f R) c.loop-j.j c.loop-j.invariant (omega (arith, length-cubes c.args.p c.args.offs (map s c.args.off.now)))
+    met_none f R (first_met 0 f R) c.loop-j.j c.loop-j.invariant (omega (arith, length-cubes c.args.p c.args.offs (map s c.args.off.now)))

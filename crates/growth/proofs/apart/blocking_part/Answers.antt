@@ -4,7 +4,7 @@ use Rattle.std.proofs.lemmas.List.{length-map}
 use Rattle.parts.specs.Sets.{some}
 use Rattle.cubes.proofs.Pairs.{empty_is}
 use Rattle.growth.specs.Missed.{only_missed, Once}
-use Rattle.growth.proofs.Missed.{awaited, awaited_end, awaited-shared, awaited-first, awaited-second, only_once}
+use Rattle.growth.proofs.Missed.{awaited, awaited_end, awaited-shared, awaited-first, awaited_second, only_once}
 use Rattle.growth.proofs.apart.blocking_part.Goals as goal
 use Rattle.growth.proofs.apart.blocking_part.Goals.{then-is_empty+in_default, else-is_empty}
 
@@ -18,7 +18,7 @@ returns-in-Some g c =
     let t : some (bit_and (s x) (s y)) ≡ false = ap not (empty_is _ (bit_and (s x) (s y)) _ _ c.common.ensures.value c.is_empty.ensures.value c.if-is_empty.true) in
     let size : length (map s F) ≡ length (map s R) = simp length-map c.requires in
     let v : None ≡ only_missed 0 (map s F) (map s R) =
-    sym (awaited-second s F R c.loop-k.k x y (omega arith) (omega arith) c.index-f-k.is c.index-r-k.is c.loop-k.found c.in-Some.is t)
+    sym (awaited_second s F R c.loop-k.k x y (omega arith) (omega arith) c.index-f-k.is c.index-r-k.is c.loop-k.found c.in-Some.is t)
     ∙ c.loop-k.invariant in
     record { value = v; once = subst (Once (map s F) (map s R)) (sym v) (only_once (map s F) (map s R) size) }
 

@@ -6,7 +6,7 @@ use Rattle.moves.specs.Widen.{touches, widened}
 use Rattle.moves.specs.Expand.{part_weight, over}
 use Rattle.orders.specs.Searches.{lightest}
 use Rattle.growth.specs.Others.{others}
-use Rattle.growth.proofs.Grown.{Grows, lightest-same, grows_none, grows-skip, grows_some, grows_all}
+use Rattle.growth.proofs.Grown.{Grows, lightest-same, grows_none, grows_skip, grows_some, grows_all}
 use Rattle.growth.proofs.grow.grow.Goals as goal
 use Rattle.growth.proofs.grow.grow.Goals.{in-Some, in_default}
 
@@ -81,7 +81,7 @@ loop-i-preserved g c =
       | in_default v ↦
           let o : lightest p w (take p c.loop-i.taken) ≡ None = sym same ∙ sym v.in_default.ensures.value in
           rw (v.solution-is, v.taken-is)
-          (grows-skip p at U R w E i c.loop-i.taken X c.loop-i-test.true o c.loop-i.invariant.0, c.loop-i.invariant.1, c.loop-i.invariant.2)
+          (grows_skip p at U R w E i c.loop-i.taken X c.loop-i-test.true o c.loop-i.invariant.0, c.loop-i.invariant.1, c.loop-i.invariant.2)
     ]
 
 pub returns : goal.returns

@@ -3,7 +3,7 @@ use Rattle.std.proofs.lemmas.List.{get_or-replicate}
 use Rattle.cubes.specs.Areas.{cube_at, cubes}
 use Rattle.cubes.proofs.Areas.{place_below, length-cubes}
 use Rattle.moves.specs.Expand.{part_weight}
-use Rattle.growth.proofs.Weighed.{weight-le, weights_around, sums_both}
+use Rattle.growth.proofs.Weighed.{weight_le, weights_around, sums_both}
 use Rattle.growth.proofs.weigh.part_weights.Goals as goal
 
 none : (k : ℕ) → k < 16 → ◌≡◌ {A = ℕ} (get_or (replicate 16 0) k 0) 0
@@ -33,7 +33,7 @@ weigh-requires g c =
       within = omega (arith, c.requires.fits);
       room = λ k h.
           let l : k < 16 = omega (arith, c.requires.few) in
-          omega (arith, none k l, c.weigh-before.ensures k h, weight-le (take p c.args.over) (cube_at p at X) k (cubes p (at - 0) (drop (0 * p) X)), length-cubes p (at - 0) (drop (0 * p) X));
+          omega (arith, none k l, c.weigh-before.ensures k h, weight_le (take p c.args.over) (cube_at p at X) k (cubes p (at - 0) (drop (0 * p) X)), length-cubes p (at - 0) (drop (0 * p) X));
     }
 
 pub returns : goal.returns

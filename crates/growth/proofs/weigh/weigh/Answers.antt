@@ -4,7 +4,7 @@ use Rattle.cubes.specs.Areas.{cube_at, cubes}
 use Rattle.cubes.specs.Cubes.{covers}
 use Rattle.cubes.proofs.Areas.{place_below, length-cube_at, map-cube_at, length-cubes}
 use Rattle.moves.specs.Expand.{part_weight}
-use Rattle.growth.proofs.Weighed.{adds, weight-le, weight_more, sums_more}
+use Rattle.growth.proofs.Weighed.{adds, weight_le, weight_more, sums_more}
 use Rattle.growth.proofs.weigh.weigh.Goals as goal
 use Rattle.growth.proofs.weigh.weigh.Goals.{then-within_words, else-within_words}
 
@@ -36,7 +36,7 @@ add_weights-more-requires g c =
       size = ec ∙ sym ef;
       room = λ k h.
           let hp : k < p = omega arith in
-          omega (arith, c.loop-i.invariant k hp, c.requires.room k hp, weight-le (take p c.args.over) (cube_at p c.args.at X) k C, length-cubes p (i - a) (drop (a * p) X), c.loop-i.auto.i);
+          omega (arith, c.loop-i.invariant k hp, c.requires.room k hp, weight_le (take p c.args.over) (cube_at p c.args.at X) k C, length-cubes p (i - a) (drop (a * p) X), c.loop-i.auto.i);
     }
 
 pub loop-i-preserved : goal.loop-i-preserved

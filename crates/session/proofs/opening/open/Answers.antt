@@ -10,7 +10,7 @@ use Rattle.session.specs.Calls.{leaving}
 use Rattle.session.specs.States.{filling, by_engine}
 use Rattle.session.specs.Stays.{off_written, work_written}
 use Rattle.cubes.specs.Areas.{flat, overlay}
-use Rattle.session.proofs.Opened.{leaves-refused, opened-room, leaves-full, leaves-open, leaving-same, copied_sets, copied_stays, exactly-at, on_few}
+use Rattle.session.proofs.Opened.{leaves_refused, opened-room, leaves_full, leaves_open, leaving-same, copied_sets, copied_stays, exactly-at, on_few}
 use Rattle.session.proofs.opening.open.Goals as goal
 
 pub returns-in-Err : goal.returns-in-Err
@@ -23,7 +23,7 @@ returns-in-Err g c =
     λ r e. ap (λ (r : Table × Fault). leaving (Err (filling r.0, r.1)) (map s c.args.off.now) (map s c.args.solution.now) c.args.cards.now (map s c.args.work.now) c.args.numbers.now) e in
     record {
       leaves = back c.refused.result c.refused.ensures
-          ∙ leaves-refused s t c.args.universe.now c.args.table.now c.args.rows.now c.args.off.now c.args.solution.now c.args.cards.now c.args.work.now c.args.numbers.now
+          ∙ leaves_refused s t c.args.universe.now c.args.table.now c.args.rows.now c.args.off.now c.args.solution.now c.args.cards.now c.args.work.now c.args.numbers.now
           c.area_length.result c.area_length-2.result c.area_length-3.result c.check_open.result c.area_length.ensures c.area_length-2.ensures c.area_length-3.ensures c.check_open.ensures c.in-Err.cause c.in-Err.is;
       off_stays = refl;
       solution_stays = refl;
@@ -72,7 +72,7 @@ returns-then-not-list g c =
           ap (λ (r : Table × Fault). leaving (Err (filling r.0, r.1)) (map s c.off_list-list.new.off) (map s c.args.solution.now) c.args.cards.now (map s c.off_list-list.new.work) c.off_list-list.new.numbers) e
           ∙ ap (λ k. leaving (Err (t, by_engine (Off k))) (map s c.off_list-list.new.off) (map s c.args.solution.now) c.args.cards.now (map s c.off_list-list.new.work) c.off_list-list.new.numbers) full
           ∙ leaving-same (Err (t, by_engine (Off most))) _ _ _ _ _ _ _ _ _ _ c.off_list-list.ensures.off refl refl c.off_list-list.ensures.work c.off_list-list.ensures.numbers
-          ∙ leaves-full s t c.args.universe.now c.args.table.now c.args.rows.now off c.args.solution.now c.args.cards.now c.args.work.now c.args.numbers.now
+          ∙ leaves_full s t c.args.universe.now c.args.table.now c.args.rows.now off c.args.solution.now c.args.cards.now c.args.work.now c.args.numbers.now
           c.area_length.result c.area_length-2.result c.area_length-3.result c.check_open.result c.area_length.ensures c.area_length-2.ensures c.area_length-3.ensures c.check_open.ensures c.in_default.is long;
       off_stays = subst (λ (r : Table × Fault). drop (off_written (Err (filling r.0, r.1))) c.off_list-list.new.off ≡ drop (off_written (Err (filling r.0, r.1))) off) (sym e) c.off_list-list.ensures.off_stays;
       solution_stays = refl;
@@ -104,7 +104,7 @@ returns g c =
       leaves =
           ap₂ (λ (m k : ℕ). leaving (Ok (record { p = p; rows = n; off = m; count = k })) (map s c.off_list-list.new.off) (map s c.copy_on_rows-count.new.solution) c.copy_on_rows-count.new.notes (map s c.off_list-list.new.work) c.off_list-list.new.numbers) count on
           ∙ leaving-same (Ok (record { p = p; rows = n; off = length L; count = on_count n rs })) _ _ _ _ _ _ _ _ _ _ offs solution c.copy_on_rows-count.ensures.cards c.off_list-list.ensures.work c.off_list-list.ensures.numbers
-          ∙ leaves-open s t c.args.universe.now c.args.table.now c.args.rows.now off c.args.solution.now c.args.cards.now c.args.work.now c.args.numbers.now
+          ∙ leaves_open s t c.args.universe.now c.args.table.now c.args.rows.now off c.args.solution.now c.args.cards.now c.args.work.now c.args.numbers.now
           c.area_length.result c.area_length-2.result c.area_length-3.result c.check_open.result c.area_length.ensures c.area_length-2.ensures c.area_length-3.ensures c.check_open.ensures c.in_default.is fit;
       off_stays = c.off_list-list.ensures.off_stays;
       solution_stays = copied_stays p n c.copy_on_rows-count.result c.args.table.now rs c.copy_on_rows-count.new.solution c.args.solution.now room.1 on c.copy_on_rows-count.ensures.cubes;

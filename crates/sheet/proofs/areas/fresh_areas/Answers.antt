@@ -1,6 +1,6 @@
 use Rattle.std.proofs.Common.{◌≡◌, ◌+◌, ◌*◌, ◌^◌, ◌∙◌, arith}
 use native.Mathlib.Nat.{zero-mod}
-use Rattle.sheet.proofs.Memory.{fresh-is}
+use Rattle.sheet.proofs.Memory.{fresh_is}
 use Rattle.sheet.specs.Bench.{work_cubes}
 use Rattle.sheet.proofs.areas.fresh_areas.Goals as goal
 
@@ -10,7 +10,7 @@ returns g c =
     let p = c.args.p in
     let void = c.make-none.ensures.value ∙ zero-mod (2 ^ g.P.Part.most) in
     let cubes : 1 + c.saturating_sub.result * 64 ≡ work_cubes p = omega (arith, c.saturating_sub.ensures) in
-    fresh-is g.P.Part.set none void c.blank-blank.result c.blank-blank.ensures p (1 + c.saturating_sub.result * 64) cubes
+    fresh_is g.P.Part.set none void c.blank-blank.result c.blank-blank.ensures p (1 + c.saturating_sub.result * 64) cubes
     (record {
       universe = c.in_ok-universe.universe;
       table = c.in_ok-table.table;

@@ -3,7 +3,7 @@ use Rattle.std.proofs.lemmas.Bool.{eq-eqb, ne_eqb}
 use Rattle.cubes.specs.Areas.{cube_at, put_at}
 use Rattle.cubes.proofs.Areas.{place_below, length-cube_at}
 use Rattle.table.specs.Cards.{blank, is_on, on_count}
-use Rattle.table.proofs.Rows.{count-step, copying_none, copying-on, copying-off, copying_all, on_room}
+use Rattle.table.proofs.Rows.{count-step, copying_none, copying_on, copying_off, copying_all, on_room}
 use Rattle.table.proofs.open.copy_on_rows.Goals as goal
 use Rattle.table.proofs.open.copy_on_rows.Goals.{then-cards-i-eq0, else-cards-i-eq0}
 
@@ -55,10 +55,10 @@ loop-i-preserved g c =
           let s : c.if-cards-i-eq0.solution ≡ put_at p on (cube_at p i ts) S = w.solution-is ∙ w.copy_cube.ensures ∙ ap (λ C. put_at p on C S) w.cube_at.ensures in
           let m : c.if-cards-i-eq0.notes ≡ set N on blank = w.notes-is ∙ ap (set N on) w.blank.ensures in
           let o : c.if-cards-i-eq0.on ≡ on + 1 = w.on-is in
-          rw (s, m, o) (copying-on p n ts cs E F i on S N c.loop-i-test.true t (length-cube_at p i ts fits) room noted c.loop-i.invariant)
+          rw (s, m, o) (copying_on p n ts cs E F i on S N c.loop-i-test.true t (length-cube_at p i ts fits) room noted c.loop-i.invariant)
       | else-cards-i-eq0 w ↦
           let t : is_on (get_or cs i blank) ≡ false = ne_eqb _ 0 w.if-cards-i-eq0.false in
-          rw (w.solution-is, w.notes-is, w.on-is) (copying-off p n ts cs E F i on S N c.loop-i-test.true t c.loop-i.invariant)
+          rw (w.solution-is, w.notes-is, w.on-is) (copying_off p n ts cs E F i on S N c.loop-i-test.true t c.loop-i.invariant)
     ]
 
 pub returns : goal.returns

@@ -7,7 +7,7 @@ use Rattle.moves.specs.Items.{Item, no_item}
 use Rattle.table.specs.Cards.{blank}
 use Rattle.tending.specs.Items.{items_of, stays, spared_but}
 use Rattle.tending.proofs.Places.{length_items, get_or-items, take_items}
-use Rattle.tending.proofs.Closing.{moved-items, moved-parts, moved-cards, kept_more, kept_less, leads-more, leads-less}
+use Rattle.tending.proofs.Closing.{moved_items, moved-parts, moved-cards, kept_more, kept_less, leads_more, leads_less}
 use Rattle.tending.proofs.close.close_up.Goals as goal
 use Rattle.tending.proofs.close.close_up.Goals.{then-stays, else-stays}
 
@@ -63,7 +63,7 @@ loop-i-preserved g c =
     let beside : n ≤ length C = omega arith in
     let a : i < n = c.loop-i-test.true in
     let b : k < n = omega arith in
-    let in-L : i < length L = omega (arith, length_items p n (map s c.args.solution.now) c.args.cards.now) in
+    let in_L : i < length L = omega (arith, length_items p n (map s c.args.solution.now) c.args.cards.now) in
     let in-M : i < length M = omega (arith, length_items p n (map s xs) C) in
     let lead = c.loop-i.lead in
     let leads = c.loop-i.invariant.3 in
@@ -78,16 +78,16 @@ loop-i-preserved g c =
           let D : c.if-stays.cards ≡ set C k (get_or C i blank) = w.cards-is ∙ w.move_item.ensures.card in
           let o : c.if-stays.k ≡ k + 1 = w.k-is in
           let f : c.if-stays.lead ≡ cond (eqb i at) k lead = w.lead-is ∙ w.follow-lead.ensures in
-          rw (ys, D, o, f, moved-items s p n xs C fits beside i k a b) (
-            kept_more G at L M k i in-L in-M c.loop-i.invariant.0 t,
+          rw (ys, D, o, f, moved_items s p n xs C fits beside i k a b) (
+            kept_more G at L M k i in_L in-M c.loop-i.invariant.0 t,
             moved-parts s p n xs C fits beside i k a b ∙ c.loop-i.invariant.1,
             moved-cards s p n xs C fits beside i k a b ∙ c.loop-i.invariant.2,
-            leads-more G at M lead k i le in-M leads,
+            leads_more G at M lead k i le in-M leads,
           )
       | else-stays w ↦
           let t : stays G at i (get_or M i no_item).cube ≡ false = test ∙ w.if-stays.false in
           let ne : i ≡ at → ⊥ = eqb-false i at (or_parts _ _ t).0 in
-          rw (w.solution-is, w.cards-is, w.k-is, w.lead-is) (kept_less G at L M k i in-L in-M c.loop-i.invariant.0 t, c.loop-i.invariant.1, c.loop-i.invariant.2, leads-less G at M lead k i le in-M leads ne)
+          rw (w.solution-is, w.cards-is, w.k-is, w.lead-is) (kept_less G at L M k i in_L in-M c.loop-i.invariant.0 t, c.loop-i.invariant.1, c.loop-i.invariant.2, leads_less G at M lead k i le in-M leads ne)
     ]
 
 pub returns : goal.returns

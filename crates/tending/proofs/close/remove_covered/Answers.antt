@@ -5,7 +5,7 @@ use Rattle.cubes.specs.Areas.{cube_at}
 use Rattle.moves.specs.Items.{Item, no_item, placed}
 use Rattle.table.specs.Cards.{blank}
 use Rattle.tending.specs.Items.{item_of, items_of, as_taken, spared_but}
-use Rattle.tending.proofs.Places.{length_items, get_or-items, items-card}
+use Rattle.tending.proofs.Places.{length_items, get_or-items, items_card}
 use Rattle.tending.proofs.Spared.{marked_only}
 use Rattle.tending.proofs.close.remove_covered.Goals as goal
 
@@ -20,13 +20,13 @@ returns g c =
     let k = as_taken (get_or C at blank) in
     let f = get_or L at no_item in
     let fits : n * p ≤ length S = omega (arith, length-map c.args.solution.now g.P.Part.set) in
-    let in-L : at < length L = omega (arith, length_items p n S C) in
+    let in_L : at < length L = omega (arith, length_items p n S C) in
     let is : f ≡ item_of (cube_at p at S) (get_or C at blank) = get_or-items p n at S C c.requires.place in
     let cube : cube_at p at S ≡ f.cube = ap (λ (x : Item). x.cube) (sym is) in
     let card : item_of (cube_at p at S) k ≡ placed f f.cube = ap (λ (x : Item). placed x x.cube) (sym is) in
-    let marked : items_of p n S (set C at k) ≡ set L at (placed f f.cube) = items-card p n S C fits c.requires.beside at c.requires.place k ∙ ap (set L at) card in
+    let marked : items_of p n S (set C at k) ≡ set L at (placed f f.cube) = items_card p n S C fits c.requires.beside at c.requires.place k ∙ ap (set L at) card in
     record {
-      items = c.close_up.ensures.items ∙ ap₂ (λ (G : Cube) (M : List Item). spared_but G at M) cube marked ∙ marked_only at L in-L;
+      items = c.close_up.ensures.items ∙ ap₂ (λ (G : Cube) (M : List Item). spared_but G at M) cube marked ∙ marked_only at L in_L;
       most = c.close_up.ensures.most;
       parts = c.close_up.ensures.parts;
       cards = c.close_up.ensures.cards ∙ drop-set-lt n C at k c.requires.place;

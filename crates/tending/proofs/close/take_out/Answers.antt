@@ -2,7 +2,7 @@ use Rattle.std.proofs.Common.{◌≡◌, ◌+◌, ◌-◌, ◌*◌, ◌<◌, ◌
 use Rattle.cubes.proofs.Areas.{place_below}
 use Rattle.tending.specs.Items.{items_of}
 use Rattle.tending.proofs.Places.{length_items, take_items}
-use Rattle.tending.proofs.Closing.{moved-items, moved-parts, moved-cards, shut_none, shut_more, shut_all}
+use Rattle.tending.proofs.Closing.{moved_items, moved-parts, moved-cards, shut_none, shut_more, shut_all}
 use Rattle.tending.proofs.close.take_out.Goals as goal
 
 pub move_item-requires : goal.move_item-requires
@@ -35,10 +35,10 @@ loop-j-preserved g c =
     let a : j + 1 < n = omega arith in
     let b : j < n = omega arith in
     let le : i ≤ j = omega arith in
-    let in-L : j + 1 < length L = omega (arith, length_items p n (map s c.args.solution.now) c.args.cards.now) in
+    let in_L : j + 1 < length L = omega (arith, length_items p n (map s c.args.solution.now) c.args.cards.now) in
     let in-M : j + 1 < length M = omega (arith, length_items p n (map s xs) C) in
-    rw (c.move_item.ensures.cube, c.move_item.ensures.card, moved-items s p n xs C fits beside (j + 1) j a b) (
-      shut_more i L M j le in-L in-M c.loop-j.invariant.0,
+    rw (c.move_item.ensures.cube, c.move_item.ensures.card, moved_items s p n xs C fits beside (j + 1) j a b) (
+      shut_more i L M j le in_L in-M c.loop-j.invariant.0,
       moved-parts s p n xs C fits beside (j + 1) j a b ∙ c.loop-j.invariant.1,
       moved-cards s p n xs C fits beside (j + 1) j a b ∙ c.loop-j.invariant.2,
     )

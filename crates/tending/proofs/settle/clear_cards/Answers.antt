@@ -1,7 +1,7 @@
 use Rattle.std.proofs.Common.{◌≡◌, ◌<◌, length, replicate, arith}
 use Rattle.std.proofs.lemmas.List.{length-replicate}
 use Rattle.table.specs.Cards.{blank}
-use Rattle.table.proofs.Rows.{cards-more, cards-left, overlay_is}
+use Rattle.table.proofs.Rows.{cards_more, cards-left, overlay_is}
 use Rattle.tending.proofs.settle.clear_cards.Goals as goal
 
 pub loop-i-preserved : goal.loop-i-preserved
@@ -9,7 +9,7 @@ loop-i-preserved c =
     let N = c.loop-i.cards in
     let i = c.loop-i.i in
     let h : i < length N = omega arith in
-    rw c.blank.ensures (cards-more i N h c.loop-i.invariant.0, cards-left i N h c.args.cards.now c.loop-i.invariant.1)
+    rw c.blank.ensures (cards_more i N h c.loop-i.invariant.0, cards-left i N h c.args.cards.now c.loop-i.invariant.1)
 
 pub returns : goal.returns
 returns c =

@@ -4,7 +4,7 @@ use Rattle.cubes.specs.Areas.{cubes}
 use Rattle.moves.specs.Items.{started}
 use Rattle.table.specs.declared.card.Card.{Card}
 use Rattle.tending.specs.Items.{items_of, cards_of}
-use Rattle.tending.proofs.Starts.{start-more, start-all, start-items}
+use Rattle.tending.proofs.Starts.{start_more, start-all, start_items}
 use Rattle.tending.proofs.start.start_cards.Goals as goal
 
 -- a card with no marks
@@ -21,7 +21,7 @@ loop-i-preserved g c =
     let i = c.loop-i.i in
     let m : i < length N = omega arith in
     let e = c.weigh.ensures.value in (
-      subst (λ (w : ℕ). take (i + 1) (set N i (card_at w i)) ≡ cards_of (take (i + 1) (started (cubes p n S)))) (sym e) (start-more p n S i N c.loop-i-test.true m c.loop-i.invariant.0),
+      subst (λ (w : ℕ). take (i + 1) (set N i (card_at w i)) ≡ cards_of (take (i + 1) (started (cubes p n S)))) (sym e) (start_more p n S i N c.loop-i-test.true m c.loop-i.invariant.0),
       drop-set-lt (i + 1) N i (card_at c.weigh.result i) (omega arith) ∙ sym (drop-drop 1 i N) ∙ ap (drop 1) c.loop-i.invariant.1 ∙ drop-drop 1 i E,
     )
 
@@ -35,4 +35,4 @@ returns g c =
     let e : c.loop-i.i ≡ n = omega arith in
     let inv = rw e at c.loop-i.invariant in
     let cards = start-all p n S N E inv.0 inv.1 in
-    record { items = ap (items_of p n S) cards ∙ start-items p n S E; cards = cards }
+    record { items = ap (items_of p n S) cards ∙ start_items p n S E; cards = cards }

@@ -1,7 +1,7 @@
 use Rattle.std.proofs.Common.{◌≡◌, ◌<◌, ◌≤◌, length, ap, ◌∙◌, arith}
 use lib.Bits.{bit_and}
 use lib.Count.{ones}
-use Rattle.tending.proofs.Weights.{few-members, shared_step, shared-end}
+use Rattle.tending.proofs.Weights.{few-members, shared_step, shared_end}
 use Rattle.tending.proofs.weight.shared_values.Goals as goal
 
 pub loop-i-preserved : goal.loop-i-preserved
@@ -21,5 +21,5 @@ loop-i-preserved g c =
 
 pub returns : goal.returns
 returns g c =
-    let end = shared-end g.P.Part.set c.args.a.now c.args.b.now c.loop-i.i (omega arith) in
+    let end = shared_end g.P.Part.set c.args.a.now c.args.b.now c.loop-i.i (omega arith) in
     record { value = omega (arith, end, c.loop-i.invariant.0); most = omega (arith, c.loop-i.invariant.1) }

@@ -2,7 +2,7 @@ use Rattle.std.proofs.Common.{◌≡◌, ◌≤◌, map, ap, ◌∙◌, ap₂, a
 use Rattle.cubes.specs.Areas.{cube_at}
 use Rattle.cubes.proofs.Areas.{place_below, map-cube_at}
 use Rattle.moves.specs.Items.{shared}
-use Rattle.tending.proofs.Weights.{size_at, weighed-step, weighed-end}
+use Rattle.tending.proofs.Weights.{size_at, weighed-step, weighed_end}
 use Rattle.tending.proofs.weight.weigh.Goals as goal
 
 pub cube_at-requires : goal.cube_at-requires
@@ -39,5 +39,5 @@ loop-j-preserved g c =
 pub returns : goal.returns
 returns g c =
     let S = map g.P.Part.set c.args.solution.now in
-    let end = weighed-end c.args.p c.args.n c.loop-j.j (cube_at c.args.p c.args.i S) S (omega arith) in
+    let end = weighed_end c.args.p c.args.n c.loop-j.j (cube_at c.args.p c.args.i S) S (omega arith) in
     record { value = omega (arith, end, c.loop-j.invariant.0); most = omega (arith, c.loop-j.invariant.1) }

@@ -3,7 +3,7 @@ use Rattle.cubes.specs.Areas.{cubes}
 use Rattle.cubes.specs.Cubes.{meets, covers}
 use Rattle.cubes.proofs.Areas.{place_below}
 use Rattle.walk.specs.Look.{look_of}
-use Rattle.walk.proofs.Looks.{found-gone, found_first, found-later, found_none, found_all, row_test}
+use Rattle.walk.proofs.Looks.{found_gone, found_first, found_later, found_none, found_all, row_test}
 use Rattle.walk.proofs.rest.look_ahead.Goals as goal
 use Rattle.walk.proofs.rest.look_ahead.Goals.{then-meets+else-covers+in-Free, then-meets+else-covers+in_default, else-meets}
 
@@ -22,7 +22,7 @@ returns-then-covers g c =
     let o = look_of a c.args.i (drop c.args.i (cubes p n (map s list))) in
     let met = row_test s p j list row (meets a) c.meets.result true c.cube_at-row.ensures c.meets.ensures c.if-meets.true in
     let covered = row_test s p j list row (λ b. covers b a) c.covers.result true c.cube_at-row.ensures c.covers.ensures c.if-covers.true in
-    found-gone p n j (map s list) a c.loop-j-test.true c.loop-j.first o c.loop-j.invariant met covered
+    found_gone p n j (map s list) a c.loop-j-test.true c.loop-j.first o c.loop-j.invariant met covered
 
 pub loop-j-preserved : goal.loop-j-preserved
 loop-j-preserved g c =
@@ -41,7 +41,7 @@ loop-j-preserved g c =
           found_first p n j (map s list) a c.loop-j-test.true c.loop-j.first o c.loop-j.invariant c.if-meets.first w.in-Free.is w.first-is (met true w.if-meets.true) uncovered
       | then-meets+else-covers+in_default w ↦
           let uncovered = row_test s p j list row (λ b. covers b a) w.covers.result false c.cube_at-row.ensures w.covers.ensures w.if-covers.false in
-          found-later p n j (map s list) a c.loop-j-test.true c.loop-j.first o c.loop-j.invariant c.if-meets.first w.in_default.not-Free w.first-is (met true w.if-meets.true) uncovered
+          found_later p n j (map s list) a c.loop-j-test.true c.loop-j.first o c.loop-j.invariant c.if-meets.first w.in_default.not-Free w.first-is (met true w.if-meets.true) uncovered
       | else-meets w ↦ found_none p n j (map s list) a c.loop-j-test.true c.loop-j.first o c.loop-j.invariant c.if-meets.first w.first-is (met false w.if-meets.false)
     ]
 

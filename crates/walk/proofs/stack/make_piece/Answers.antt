@@ -1,5 +1,5 @@
 use Rattle.std.proofs.Common.{◌≡◌, map, refl, ap, ◌∙◌, arith}
-use Rattle.walk.proofs.Pieces.{mixed, mixed-more, mixed-all}
+use Rattle.walk.proofs.Pieces.{mixed, mixed_more, mixed-all}
 use Rattle.walk.proofs.stack.make_piece.Goals as goal
 
 pub loop-j-init : goal.loop-j-init
@@ -7,7 +7,7 @@ loop-j-init g c = refl
 
 pub loop-j-preserved : goal.loop-j-preserved
 loop-j-preserved g c =
-    mixed-more g.P.Part.set c.loop-j.a c.args.a.now c.args.b.now c.loop-j.j _ _ _ c.loop-j.auto.a c.requires.b_len (omega arith) c.index-a-j.is c.index-b-j.is c.loop-j.invariant c.common.ensures.value
+    mixed_more g.P.Part.set c.loop-j.a c.args.a.now c.args.b.now c.loop-j.j _ _ _ c.loop-j.auto.a c.requires.b_len (omega arith) c.index-a-j.is c.index-b-j.is c.loop-j.invariant c.common.ensures.value
 
 pub returns : goal.returns
 returns g c =

@@ -3,7 +3,7 @@ use Rattle.std.proofs.lemmas.List.{length-map}
 use Rattle.cubes.specs.Areas.{cube_at, put_at}
 use Rattle.walk.specs.Stack.{stack_of}
 use Rattle.cubes.proofs.Areas.{map-put, map-cube_at}
-use Rattle.walk.proofs.Stacks.{piece-test, piece-empty, piece-some, push-stack, push_kept}
+use Rattle.walk.proofs.Stacks.{piece-test, piece-empty, piece-some, push_stack, push_kept}
 use Rattle.walk.proofs.stack.push_piece.Goals as goal
 
 pub returns-then-is_empty : goal.returns-then-is_empty
@@ -33,7 +33,7 @@ returns g c =
     let cubes = c.put_piece.ensures.cubes in
     let numbers = c.put_piece.ensures.numbers in
     record {
-      stack = push-stack p t k c.args.next (map s w) us vs c.args.numbers.now c.put_piece.new.numbers b fits c.requires.room moved cubes numbers ∙ piece-some c.args.next k (cube_at p t (map s w)) b (stack_of p t (map s w) c.args.numbers.now) test;
+      stack = push_stack p t k c.args.next (map s w) us vs c.args.numbers.now c.put_piece.new.numbers b fits c.requires.room moved cubes numbers ∙ piece-some c.args.next k (cube_at p t (map s w)) b (stack_of p t (map s w) c.args.numbers.now) test;
       kept = push_kept p t k c.args.next (map s w) us vs c.args.numbers.now c.put_piece.new.numbers b fits c.requires.room moved cubes numbers;
       most = omega arith;
     }
