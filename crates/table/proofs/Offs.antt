@@ -33,8 +33,8 @@ cleared_part s k n xs ys e f =
     ∙ ap (λ A. A ++ map s (drop k xs)) f
     ∙ ap (λ D. replicate n 0 ++ D) (sym (drop-map s k xs) ∙ ap (λ m. drop m (map s xs)) (e ∙ sym (length-replicate n 0)))
 
-pub most_fits : (p parts : ℕ) → 1 ≤ p → min 4096 (parts / p) * p ≤ parts
-most_fits p parts h = (le-div_iff_mul-le h).0 (omega arith)
+pub most_fits : (p parts most : ℕ) → 1 ≤ p → most ≡ min 4096 (parts / p) → most * p ≤ parts
+most_fits p parts most h e = (le-div_iff_mul-le h).0 (omega arith)
 
 -- what lies behind a part that was written
 pub behind_part : {X : Type 0} (k n : ℕ) (xs ys : List X) → k ≡ n → length ys ≡ n → drop n (ys ++ drop k xs) ≡ drop n xs
