@@ -40,7 +40,8 @@ loop-j-preserved g c =
           let b : beside k F (cube_at p j X) ≡ true = ap (beside k F) (sym e) ∙ sym c.meets_beside.ensures ∙ w.if-meets_beside.true in
           let x = w.index-r-k.result in
           let q : s x ≡ get_or (cube_at p j X) k 0 = sym (read_set s r k x hr w.index-r-k.is) ∙ ap (λ L. get_or L k 0) e in
-          ap s w.values-is ∙ w.joined-values.ensures.value ∙ ap₂ bit_or c.loop-j.invariant q
+          let both : s c.if-meets_beside.values ≡ bit_or (s c.loop-j.values) (s x) = cc in
+          both ∙ ap₂ bit_or c.loop-j.invariant q
           ∙ sym (blocked_more p k j F X ∙ ap (λ t. bit_or (blocked k F (cubes p j X)) (cond t (get_or (cube_at p j X) k 0) 0)) b)
       | else-meets_beside w ↦
           let b : beside k F (cube_at p j X) ≡ false = ap (beside k F) (sym e) ∙ sym c.meets_beside.ensures ∙ w.if-meets_beside.false in
