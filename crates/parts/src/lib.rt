@@ -19,7 +19,7 @@ pub trait Part: Copy {
     /// `MOST`, for clauses.
     ghost most: { ℕ };
 
-    /// `MOST`, for code over any kind: of a trait's constant nothing is known there.
+    /// `MOST`, for code over any kind.
     fn most_values() -> u32
         ensures { result ≡ most };
 
