@@ -4,3 +4,4 @@
 pub mod area;
 pub mod cube;
 pub mod laws;
+pub mod list;

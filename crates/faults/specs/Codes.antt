@@ -1,8 +1,12 @@
 -- Number, name and places of each refusal, the word for each layer, and the line that is printed.
-use Rattle.std.specs.Prelude.{ℕ, List, ◌++◌, codes, decimal}
+use Rattle.std.specs.Prelude.{ℕ, Bool, true, false, List, ◌++◌, codes, decimal}
 use Rattle.faults.specs.declared.Fault.{Fault}
 use Rattle.faults.specs.declared.Layer.{Layer}
 use Rattle.faults.specs.declared.Layer.TheVariants.{Sheet, Table, Engine}
+use Rattle.faults.specs.declared.Kind.{Kind}
+use Rattle.faults.specs.declared.Kind.TheVariants.{On, Dc}
+use Rattle.faults.specs.declared.State.{State}
+use Rattle.faults.specs.declared.State.TheVariants.{Start, Sizing, Filling, Opened}
 use Rattle.faults.specs.declared.Cause.{Cause}
 use Rattle.faults.specs.declared.Cause.TheVariants.{Long, Unknown, Cut, Misplaced, Operand, Shape, Limit, Area, Empty, Outside, Repeat, Full, Off, Foreign}
 
@@ -38,6 +42,21 @@ name (Full rows) = codes "full"
 name (Off most) = codes "off"
 name (Foreign cube off) = codes "foreign"
 
+-- ON is 0, DC is 1
+abbrev pub kind_number : Kind → ℕ
+kind_number On = 0
+kind_number Dc = 1
+
+abbrev pub is_on_kind : Kind → Bool
+is_on_kind On = true
+is_on_kind Dc = false
+
+abbrev pub state_number : State → ℕ
+state_number Start = 0
+state_number Sizing = 1
+state_number Filling = 2
+state_number Opened = 3
+
 abbrev pub first_place : Cause → ℕ
 first_place Long = 0
 first_place (Unknown command) = command
@@ -58,14 +77,14 @@ abbrev pub second_place : Cause → ℕ
 second_place Long = 0
 second_place (Unknown command) = 0
 second_place (Cut command present) = present
-second_place (Misplaced command state) = state
+second_place (Misplaced command state) = state_number state
 second_place (Operand value) = 0
 second_place (Shape first second) = second
 second_place (Limit rounds) = 0
 second_place (Area area needed) = needed
 second_place (Empty part) = 0
 second_place (Outside part value) = value
-second_place (Repeat row kind) = kind
+second_place (Repeat row kind) = kind_number kind
 second_place (Full rows) = 0
 second_place (Off most) = 0
 second_place (Foreign cube off) = off

@@ -1,10 +1,11 @@
 //! Refusals: what a call says when it does nothing. Each has a number, the layer that refuses, and two places that say what is wrong and where.
 #![tactic(auto)]
 
-ghost use Rattle.std.specs.Prelude.{◌≡◌, IfOk, string_bytes};
-ghost use Rattle.faults.specs.Codes.{number as number_of, name as name_of, first_place, second_place, layer_word, line_of, refusal_line};
+ghost use Rattle.std.specs.Prelude.{◌≡◌, IfOk, Some, string_bytes};
+ghost use Rattle.faults.specs.Codes.{number as number_of, name as name_of, first_place, second_place, layer_word, is_on_kind, refusal_line};
 
 use std::alloc::{AllocError, Global};
+use std::fmt;
 
 /// Who refuses: the sheet of commands, the table while it is filled, or the engine from Open onward.
 #[derive(Clone, Copy)]
@@ -12,6 +13,22 @@ pub enum Layer {
     Sheet,
     Table,
     Engine,
+}
+
+/// Whether a row says what must be held (ON) or what may be (DC, don't care).
+#[derive(Clone, Copy)]
+pub enum Kind {
+    On,
+    Dc,
+}
+
+/// The states of a sheet: nothing is said yet, parts are declared, a table is filled, a session is open.
+#[derive(Clone, Copy)]
+pub enum State {
+    Start,
+    Sizing,
+    Filling,
+    Opened,
 }
 
 /// What is refused, with its places, in the order in which they are checked.
@@ -24,7 +41,7 @@ pub enum Cause {
     /// The sheet ends within the operands; so many of their bytes are there.
     Cut { command: u8, present: usize },
     /// The command is not allowed in this state.
-    Misplaced { command: u8, state: u8 },
+    Misplaced { command: u8, state: State },
     /// A kind, an order byte or a part number has no meaning.
     Operand { value: u8 },
     /// The number of parts is not 1 to 16 (it, 0), or a size is not 1 to the kind's most (part, size).
@@ -37,8 +54,8 @@ pub enum Cause {
     Empty { part: usize },
     /// A part of a row has a value that the universe lacks.
     Outside { part: usize, value: usize },
-    /// An earlier row of this kind (0 for ON, 1 for DC) has the same parts.
-    Repeat { row: usize, kind: usize },
+    /// An earlier row of this kind has the same parts.
+    Repeat { row: usize, kind: Kind },
     /// There are 512 rows, or the table area is filled.
     Full { rows: usize },
     /// The off list has more cubes than this: 4,096, or its area where that is shorter.
@@ -52,6 +69,15 @@ pub enum Cause {
 pub struct Fault {
     pub layer: Layer,
     pub cause: Cause,
+}
+
+impl Kind {
+    /// Whether it is ON.
+    pub fn is_on(self) -> bool
+        ensures { result ≡ is_on_kind self }
+    {
+        matches!(self, Kind::On)
+    }
 }
 
 impl Layer {
@@ -127,7 +153,7 @@ impl Cause {
             Cause::Area { area, needed } => (area, needed),
             Cause::Empty { part } => (part, 0),
             Cause::Outside { part, value } => (part, value),
-            Cause::Repeat { row, kind } => (row, kind),
+            Cause::Repeat { row, kind } => (row, kind as usize),
             Cause::Full { rows } => (rows, 0),
             Cause::Off { most } => (most, 0),
             Cause::Foreign { cube, off } => (cube, off),
@@ -135,19 +161,29 @@ impl Cause {
     }
 }
 
-// The line, from what stands in it.
-fn refusal(
-    heap: Global,
-    number: u8,
-    name: &str,
-    layer: &str,
-    at: usize,
-    first: usize,
-    second: usize,
-) -> Result<String, AllocError>
-    ensures { IfOk result (λ s. string_bytes s ≡ line_of number name.now layer.now at first second) }
-{
-    format!(in heap; "refused {number} {name} {layer} at {at} {first} {second}\n")
+impl fmt::Display for Layer {
+    ghost output = { λ layer. Some (layer_word layer) };
+
+    fn fmt<W: fmt::Write>(&self, f: &mut fmt::Formatter<W>) -> fmt::Result {
+        f.write_str(self.word())
+    }
+}
+
+impl fmt::Display for Cause {
+    ghost output = { λ cause. Some (name_of cause) };
+
+    fn fmt<W: fmt::Write>(&self, f: &mut fmt::Formatter<W>) -> fmt::Result {
+        f.write_str(self.name())
+    }
+}
+
+impl Cause {
+    /// The refusal by a layer.
+    pub fn by(self, layer: Layer) -> Fault
+        ensures { result ≡ record { layer = layer; cause = self } }
+    {
+        Fault { layer, cause: self }
+    }
 }
 
 impl Fault {
@@ -155,10 +191,9 @@ impl Fault {
     pub fn line(&self, heap: Global, at: usize) -> Result<String, AllocError>
         ensures { IfOk result (λ s. string_bytes s ≡ refusal_line self.now at) }
     {
-        let number = self.cause.number();
-        let name = self.cause.name();
-        let layer = self.layer.word();
-        let (first, second) = self.cause.places();
-        refusal(heap, number, name, layer, at, first, second)
+        let Fault { layer, cause } = *self;
+        let number = cause.number();
+        let (first, second) = cause.places();
+        format!(in heap; "refused {number} {cause} {layer} at {at} {first} {second}\n")
     }
 }

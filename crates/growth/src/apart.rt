@@ -1,22 +1,9 @@
-//! Tests on a cube beside another, and the word of a part.
+//! Tests on a cube beside another.
 ghost use Rattle.std.specs.Prelude.{◌≡◌, map, length};
 ghost use Rattle.moves.specs.Widen.{beside};
 ghost use Rattle.growth.specs.Missed.{only_missed, Once};
 
 use parts::Part;
-
-/// The set as a word: its values are gathered one by one.
-pub fn word_of<P: Part>(values: P) -> u64
-    ensures { result ≡ P.set values }
-{
-    let mut word: u64 = 0;
-    for v in 0..P::most_values() {
-        if values.contains(v) {
-            word |= 1 << v;
-        }
-    }
-    word
-}
 
 /// The part in which the cubes share no value, where there is exactly one such part.
 pub fn blocking_part<P: Part>(f: &[P], r: &[P]) -> Option<usize>

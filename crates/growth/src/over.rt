@@ -4,9 +4,9 @@ ghost use Rattle.cubes.specs.Areas.{cubes};
 ghost use Rattle.moves.specs.Widen.{touches, blocked};
 ghost use Rattle.moves.specs.Expand.{over};
 
-use crate::apart::{blocking_part, word_of};
+use crate::apart::blocking_part;
 use cubes::area::cube_at;
-use parts::Part;
+use parts::{Part, word_of};
 
 /// For each part the values of the off cubes that meet `f` in every other part.
 pub(crate) fn blocked_words<P: Part>(p: usize, off: &[P], offs: usize, f: &[P]) -> [u64; 16]

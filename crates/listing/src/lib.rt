@@ -20,10 +20,10 @@ fn value_mark(member: bool) -> u8
 // A mark for each value that the universe's part `whole` has, from `at` on; the result is the place after the last.
 fn write_marks<P: Part>(whole: P, part: P, line: &mut [u8], at: usize) -> usize
     requires { at + 64 ≤ length line.old }
-    ensures { Wrote at (marks P.most (P.set whole) (P.set part)) line.old line.new result }
+    ensures { Wrote at (marks P.MOST (P.set whole) (P.set part)) line.old line.new result }
 {
     let mut end = at;
-    for v in 0..P::most_values() {
+    for v in 0..P::MOST {
         if whole.contains(v) {
             line[end] = value_mark(part.contains(v));
             end += 1;
@@ -47,9 +47,9 @@ fn ternary_mark<P: Part>(part: P) -> u8
 // A part, from `at` on; the result is the place after it.
 fn write_part<P: Part>(whole: P, part: P, line: &mut [u8], at: usize) -> usize
     requires { at + 64 ≤ length line.old }
-    ensures { Wrote at (part_text P.most (P.set whole) (P.set part)) line.old line.new result }
+    ensures { Wrote at (part_text P.MOST (P.set whole) (P.set part)) line.old line.new result }
 {
-    if P::most_values() == 2 {
+    if P::MOST == 2 {
         line[at] = ternary_mark(part);
         return at + 1;
     }
@@ -59,9 +59,9 @@ fn write_part<P: Part>(whole: P, part: P, line: &mut [u8], at: usize) -> usize
 // What stands before part `i`, from `at` on; the result is the place after it.
 fn write_gap<P: Part>(i: usize, line: &mut [u8], at: usize) -> usize
     requires { at < length line.old }
-    ensures { Wrote at (gap P.most i) line.old line.new result }
+    ensures { Wrote at (gap P.MOST i) line.old line.new result }
 {
-    let most = P::most_values();
+    let most = P::MOST;
     if i == 0 || most == 2 {
         return at;
     }
@@ -75,8 +75,8 @@ pub fn write_cube<P: Part>(universe: &[P], cube: &[P], line: &mut [u8]) -> usize
     requires parts { length universe.now ≡ length cube.now }
     requires few { length cube.now ≤ 16 }
     requires room { 1040 ≤ length line.old }
-    ensures text { line.new ≡ overlay (cube_line P.most (map P.set universe.now) (map P.set cube.now)) line.old }
-    ensures size { result ≡ length (cube_line P.most (map P.set universe.now) (map P.set cube.now)) }
+    ensures text { line.new ≡ overlay (cube_line P.MOST (map P.set universe.now) (map P.set cube.now)) line.old }
+    ensures size { result ≡ length (cube_line P.MOST (map P.set universe.now) (map P.set cube.now)) }
     ensures bound { result ≤ 1040 }
 {
     let mut end = 0;
@@ -103,7 +103,7 @@ fn text_of(heap: Global, bytes: &[u8]) -> Result<String, AllocError>
 pub fn cube_text<P: Part>(heap: Global, universe: &[P], cube: &[P]) -> Result<String, AllocError>
     requires parts { length universe.now ≡ length cube.now }
     requires few { length cube.now ≤ 16 }
-    ensures { IfOk result (λ s. string_bytes s ≡ cube_text P.most (map P.set universe.now) (map P.set cube.now)) }
+    ensures { IfOk result (λ s. string_bytes s ≡ cube_text P.MOST (map P.set universe.now) (map P.set cube.now)) }
 {
     let mut line = [0u8; 1040];
     let size = write_cube(universe, cube, &mut line);

@@ -1,12 +1,12 @@
 -- The members of the sets that the bit operations make.
-use Rattle.std.proofs.Common.{◌≡◌, ℕ, zero, suc, ◌+◌, ◌-◌, ◌/◌, ◌%◌, ◌^◌, ◌<◌, ◌≤◌, min, max, Bool, true, false, not, ◌&&◌, ◌||◌, eqb, ltb, ◌≢◌, refl, ◌∙◌, pow-suc, add-one, arith}
+use Rattle.std.proofs.Common.{◌≡◌, ℕ, zero, suc, ◌+◌, ◌-◌, ◌/◌, ◌%◌, ◌^◌, ◌<◌, ◌≤◌, min, max, Bool, true, false, not, ◌&&◌, ◌||◌, eqb, ltb, ◌≢◌, refl, sym, ap, ◌∙◌, pow-suc, add-one, arith}
 use Prim.Native.Nat.compare
 use lib.Arith.{bin_ind}
 use lib.Bits.{bit_and, bit_or, and_step, or_step, and_le_l, and_comm}
 use lib.Count.{ones, ones_step}
 use Rattle.std.proofs.lemmas.Nat.{pow_pos, mod-pow-add, field_of}
 use Rattle.std.proofs.lemmas.Bool.Decides.{nat_tests}
-use Rattle.std.proofs.lemmas.Bool.{eq-eqb}
+use Rattle.std.proofs.lemmas.Bool.{eq-eqb, eqb-true}
 use Rattle.parts.specs.Sets.{has, minus, members}
 
 -- ---- a set's first value, and the others
@@ -129,3 +129,19 @@ pub members_ones : (k s : ℕ) → s < 2 ^ k → members s k ≡ ones s
 unfolding ones
 members_ones zero s h = let e : s ≡ 0 = omega arith in rw e
 members_ones (suc k) s h = omega (arith, members_step s k, ones_step s, members_ones k (s / 2) (omega (arith, pow-suc 2 k)))
+
+-- ---- the values of a set, gathered into a word
+
+pub gather_more : (s v : ℕ) → has s v ≡ true → bit_or (s % 2 ^ v) (2 ^ v) ≡ s % 2 ^ (v + 1)
+gather_more s v h = same _ _ (λ u. has-or (s % 2 ^ v) (2 ^ v) u ∙ rw (has_low v s u, has_only v u) (step u (ltb u v) (eqb u v) refl refl) ∙ sym (has_low (v + 1) s u))
+  where
+    step : (u : ℕ) (a b : Bool) → ltb u v ≡ a → eqb u v ≡ b → ((ltb u v && has s u) || eqb u v) ≡ (ltb u (v + 1) && has s u)
+    step u a true e f = let q : u ≡ v = eqb-true u v f in let t : has s u ≡ true = ap (has s) q ∙ h in grind (arith, nat_tests)
+    step u a false e f = grind (arith, nat_tests)
+
+pub gather_same : (s v : ℕ) → has s v ≡ false → s % 2 ^ v ≡ s % 2 ^ (v + 1)
+gather_same s v h = same _ _ (λ u. has_low v s u ∙ step u (eqb u v) refl ∙ sym (has_low (v + 1) s u))
+  where
+    step : (u : ℕ) (b : Bool) → eqb u v ≡ b → (ltb u v && has s u) ≡ (ltb u (v + 1) && has s u)
+    step u true f = let q : u ≡ v = eqb-true u v f in let t : has s u ≡ false = ap (has s) q ∙ h in grind (arith, nat_tests)
+    step u false f = grind (arith, nat_tests)

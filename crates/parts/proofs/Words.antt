@@ -1,9 +1,11 @@
 -- What the machine's operations on words make of sets.
-use Rattle.std.proofs.Common.{◌≡◌, ℕ, zero, suc, ◌-◌, ◌/◌, ◌%◌, ◌^◌, ◌<◌, not, ◌&&◌, eqb, sym, ap, ◌∙◌, mul_comm, pow-suc, div-one, arith}
+use Rattle.std.proofs.Common.{◌≡◌, ℕ, zero, suc, ◌+◌, ◌-◌, ◌*◌, ◌/◌, ◌%◌, ◌^◌, ◌<◌, ◌≤◌, not, ◌&&◌, eqb, sym, ap, ◌∙◌, mul_comm, pow-suc, div-one, arith}
 use native.Mathlib.Nat.{div-div-eq-div-mul}
 use lib.Bits.{bit_and, and_mask}
+use lib.Pow.{ones_lt, ones_split}
+use Rattle.std.proofs.lemmas.Nat.{shr_high}
 use Rattle.std.proofs.lemmas.Bool.Decides.{nat_tests}
-use Rattle.parts.specs.Sets.{has, minus}
+use Rattle.parts.specs.Sets.{has, minus, whole}
 use Rattle.parts.proofs.Bits.{has-and, has-minus, has-none, same}
 
 -- `a & !b`
@@ -28,3 +30,11 @@ has_word s v = rw (and_mask (s / 2 ^ v) 1) (at s v)
     at s (suc v) =
         let e : s / 2 ^ suc v ≡ s / 2 / 2 ^ v = rw (pow-suc 2 v, mul_comm (2 ^ v) 2) (sym (div-div-eq-div-mul s 2 (2 ^ v))) in
         rw e (at (s / 2) v)
+
+-- a word of ones, shifted down
+pub whole_word : (size : ℕ) → size ≤ 64 → (2 ^ 64 - 1) / 2 ^ (64 - size) ≡ whole size
+whole_word size h =
+    let k = 64 - size in
+    let e : size + k ≡ 64 = omega arith in
+    let split : 2 ^ 64 - 1 ≡ (2 ^ size - 1) * 2 ^ k + (2 ^ k - 1) = ap (λ n. 2 ^ n - 1) (sym e) ∙ ones_split size k in
+    ap (λ n. n / 2 ^ k) split ∙ shr_high (2 ^ size - 1) k (2 ^ k - 1) (ones_lt k)

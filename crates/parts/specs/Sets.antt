@@ -1,5 +1,5 @@
 -- A set of values is a natural number: the value v is a member where bit v is set.
-use Rattle.std.specs.Prelude.{ℕ, zero, suc, ◌+◌, ◌-◌, ◌/◌, ◌%◌, Bool, cond, not, ◌==◌, bit_and}
+use Rattle.std.specs.Prelude.{ℕ, zero, suc, ◌+◌, ◌-◌, ◌/◌, ◌%◌, ◌^◌, Bool, cond, not, ◌==◌, bit_and}
 
 -- v is a member of s
 abbrev pub has : ℕ → ℕ → Bool
@@ -18,3 +18,7 @@ some s = not (s == 0)
 abbrev pub members : ℕ → ℕ → ℕ
 members s zero = 0
 members s (suc n) = members s n + cond (has s n) 1 0
+
+-- the values 0 up to a size less 1
+abbrev pub whole : ℕ → ℕ
+whole size = 2 ^ size - 1

@@ -2,8 +2,8 @@
 //! In the clauses a set is a number: the value v is a member where bit v is set.
 #![tactic(auto)]
 
-ghost use Rattle.std.specs.Prelude.{◌≡◌, ℕ, ◌^◌, ◌<◌, ◌≤◌};
-ghost use Rattle.parts.specs.Sets.{has};
+ghost use Rattle.std.specs.Prelude.{◌≡◌, ℕ, ◌^◌, ◌<◌, ◌≤◌, ◌==◌, bit_and};
+ghost use Rattle.parts.specs.Sets.{has, minus, some, whole};
 ghost use Rattle.parts.specs.Kinds.{Made, Common, Joined, Outside, Emptied, Counted};
 ghost use Rattle.parts.specs.Models.{word_set, ternary_set};
 ghost use Rattle.std.proofs.Common.{rules};
@@ -17,15 +17,11 @@ pub trait Part: Copy {
     ghost set: { Self → ℕ };
 
     /// `MOST`, for clauses.
-    ghost most: { ℕ };
-
-    /// `MOST`, for code over any kind.
-    fn most_values() -> u32
-        ensures { result ≡ most };
+    ghost MOST: { ℕ };
 
     /// The set of the values below the most whose bits are set in `word`.
     fn make(word: u64) -> Self
-        ensures { Made most word (set result) };
+        ensures { Made MOST word (set result) };
 
     /// The values that are in both.
     fn common(self, other: Self) -> Self
@@ -49,11 +45,49 @@ pub trait Part: Copy {
 
     /// How many members there are.
     fn count(self) -> u32
-        ensures { Counted most (set self) result };
+        ensures { Counted MOST (set self) result };
 
-    ghost below: { (s : Self) → set s < 2 ^ most };
+    ghost below: { (s : Self) → set s < 2 ^ MOST };
 
-    ghost range: { (1 ≤ most) × (most ≤ 64) };
+    ghost range: { (1 ≤ MOST) × (MOST ≤ 64) };
+}
+
+/// Whether each value of `part` is one of `other`.
+pub fn lies_within<P: Part>(part: P, other: P) -> bool
+    ensures { result ≡ (minus (P.set part) (P.set other) == 0) }
+{
+    part.outside(other).is_empty()
+}
+
+/// Whether some value is in both.
+pub fn shares_value<P: Part>(part: P, other: P) -> bool
+    ensures { result ≡ some (bit_and (P.set part) (P.set other)) }
+{
+    !part.common(other).is_empty()
+}
+
+/// The values of a set as a word: bit v is set where v is a member.
+pub fn word_of<P: Part>(values: P) -> u64
+    ensures { result ≡ P.set values }
+{
+    let mut word = 0;
+    for v in 0..P::MOST {
+        if values.contains(v) {
+            word |= 1 << v;
+        }
+    }
+    word
+}
+
+/// All values below a size as a word.
+pub fn whole(size: usize) -> u64
+    requires { size ≤ 64 }
+    ensures { result ≡ whole size }
+{
+    if size == 0 {
+        return 0;
+    }
+    u64::MAX >> (64 - size)
 }
 
 /// Up to 64 values, a bit for each.
@@ -65,15 +99,11 @@ impl Part for Word {
 
     ghost set = { word_set };
 
-    ghost most = { 64 };
+    ghost MOST = { 64 };
 
     ghost below = { Prim.search rules };
 
     ghost range = { Prim.search rules };
-
-    fn most_values() -> u32 {
-        Self::MOST
-    }
 
     fn make(word: u64) -> Word {
         Word(word)
@@ -118,15 +148,11 @@ impl Part for Ternary {
 
     ghost set = { ternary_set };
 
-    ghost most = { 2 };
+    ghost MOST = { 2 };
 
     ghost below = { Prim.search rules };
 
     ghost range = { Prim.search rules };
-
-    fn most_values() -> u32 {
-        Self::MOST
-    }
 
     fn make(word: u64) -> Ternary {
         match word % 4 {
@@ -174,10 +200,7 @@ impl Part for Ternary {
     }
 
     fn is_empty(self) -> bool {
-        match self {
-            Ternary::Void => true,
-            _ => false,
-        }
+        matches!(self, Ternary::Void)
     }
 
     fn count(self) -> u32 {

@@ -5,7 +5,7 @@ use Rattle.faults.specs.declared.Fault.{Fault}
 use Rattle.cubes.specs.Areas.{flat, overlay, put_at}
 use Rattle.cubes.specs.Cubes.{Cube, Cover}
 use Rattle.table.specs.declared.card.Card.{Card}
-use Rattle.table.specs.declared.card.Kind.{Kind}
+use Rattle.faults.specs.declared.Kind.{Kind}
 use Rattle.table.specs.Cards.{blank, row_card, on_cubes, on_count, area_length}
 use Rattle.table.specs.Filling.{Verdict, begin_verdict, universe_of, add_verdict, made_row}
 use Rattle.table.specs.Opening.{open_verdict, off_most, off_list}

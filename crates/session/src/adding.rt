@@ -19,9 +19,9 @@ pub fn add<P: Part>(
     table: &mut [P],
     rows: &mut [Card],
 ) -> Result<Table, (Table, Fault)>
-    ensures answer { added_answer result ≡ (added P.most (filling t) kind words.now (map P.set universe.now) (map P.set table.old) rows.old).answer }
-    ensures sets { map P.set table.new ≡ (added P.most (filling t) kind words.now (map P.set universe.now) (map P.set table.old) rows.old).table }
-    ensures cards { rows.new ≡ (added P.most (filling t) kind words.now (map P.set universe.now) (map P.set table.old) rows.old).rows }
+    ensures answer { added_answer result ≡ (added P.MOST (filling t) kind words.now (map P.set universe.now) (map P.set table.old) rows.old).answer }
+    ensures sets { map P.set table.new ≡ (added P.MOST (filling t) kind words.now (map P.set universe.now) (map P.set table.old) rows.old).table }
+    ensures cards { rows.new ≡ (added P.MOST (filling t) kind words.now (map P.set universe.now) (map P.set table.old) rows.old).rows }
     ensures before { take (t.rows * t.p) table.new ≡ take (t.rows * t.p) table.old }
     ensures behind { drop (if is_ok result then t.rows * t.p + t.p else 0) table.new ≡ drop (if is_ok result then t.rows * t.p + t.p else 0) table.old }
 {

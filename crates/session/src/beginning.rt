@@ -10,8 +10,8 @@ use table::begin::begin_universe;
 
 /// Writes the universe (area 1) from its number of parts and their sizes, and begins a table with no row. Refuses `shape` and `area`.
 pub fn begin<P: Part>(p: usize, sizes: &[usize; 16], universe: &mut [P]) -> Result<Table, Fault>
-    ensures answer { begun_answer result ≡ (begun P.most p sizes.now (map P.set universe.old)).answer }
-    ensures sets { map P.set universe.new ≡ (begun P.most p sizes.now (map P.set universe.old)).universe }
+    ensures answer { begun_answer result ≡ (begun P.MOST p sizes.now (map P.set universe.old)).answer }
+    ensures sets { map P.set universe.new ≡ (begun P.MOST p sizes.now (map P.set universe.old)).universe }
     ensures stays { drop (if is_ok result then p else 0) universe.new ≡ drop (if is_ok result then p else 0) universe.old }
 {
     match begin_universe(p, sizes, universe) {

@@ -44,7 +44,7 @@ pub fn open<P: Part>(
     ensures off_stays { drop (off_written (opened_answer result)) off.new ≡ drop (off_written (opened_answer result)) off.old }
     ensures solution_stays { drop (solution_written (opened_answer result)) solution.new ≡ drop (solution_written (opened_answer result)) solution.old }
     ensures work_stays { drop (work_written (opened_answer result) (length work.old) (length numbers.old)) work.new ≡ drop (work_written (opened_answer result) (length work.old) (length numbers.old)) work.old }
-    ensures exact { OpensExactly P.most (opened_answer result) (map P.set universe.now) (map P.set table.now) rows.now (map P.set off.new) (map P.set solution.new) }
+    ensures exact { OpensExactly P.MOST (opened_answer result) (map P.set universe.now) (map P.set table.now) rows.now (map P.set off.new) (map P.set solution.new) }
 {
     let p = t.p;
     let n = t.rows;

@@ -8,10 +8,12 @@ use Rattle.commands.specs.declared.Command.{Command}
 use Rattle.commands.specs.declared.Command.TheVariants.{Kind, Size, Value, On, Dc, Open}
 use Rattle.commands.specs.Commands.{letter}
 use Rattle.table.specs.declared.card.Card.{Card}
-use Rattle.table.specs.declared.card.Kind as kinds
-use Rattle.table.specs.declared.card.Kind.TheVariants as kind
+use Rattle.faults.specs.declared.Kind as kinds
+use Rattle.faults.specs.declared.Kind.TheVariants as kind
+use Rattle.faults.specs.declared.State as states
+use Rattle.faults.specs.declared.State.TheVariants as state
+use Rattle.parts.specs.Sets.{whole}
 use Rattle.table.specs.Cards.{blank}
-use Rattle.table.specs.Filling.{whole}
 use Rattle.session.specs.Calls.{begun, Begun, added, Added, opening, Opening}
 use Rattle.session.specs.States.{Filling, Opened, by_table}
 
@@ -109,8 +111,8 @@ Step = Result (State × List ℕ) Fault
 abbrev pub by_sheet : Cause → Fault
 by_sheet c = record { layer = Sheet; cause = c }
 
-abbrev pub misplaced : Command → ℕ → Step
-misplaced c state = Err (by_sheet (Misplaced (letter c) state))
+abbrev pub misplaced : Command → states.State → Step
+misplaced c at = Err (by_sheet (Misplaced (letter c) at))
 
 -- ---- state 0
 
@@ -122,11 +124,11 @@ kind_chosen k =
 
 abbrev pub at_start : Command → Step
 at_start (Kind k) = kind_chosen k
-at_start (Size s) = misplaced (Size s) 0
-at_start (Value part word) = misplaced (Value part word) 0
-at_start On = misplaced On 0
-at_start Dc = misplaced Dc 0
-at_start Open = misplaced Open 0
+at_start (Size s) = misplaced (Size s) state.Start
+at_start (Value part word) = misplaced (Value part word) state.Start
+at_start On = misplaced On state.Start
+at_start Dc = misplaced Dc state.Start
+at_start Open = misplaced Open state.Start
 
 -- ---- state 2
 
@@ -165,8 +167,8 @@ abbrev pub opening_table : Filling → Memory → Step
 opening_table t m = table_opened m (opening t m.universe m.table m.rows m.off m.solution m.cards m.work m.numbers)
 
 abbrev pub at_filling : ℕ → Drafted → Memory → Command → Step
-at_filling most d m (Kind k) = misplaced (Kind k) 2
-at_filling most d m (Size n) = misplaced (Size n) 2
+at_filling most d m (Kind k) = misplaced (Kind k) state.Filling
+at_filling most d m (Size n) = misplaced (Size n) state.Filling
 at_filling most d m (Value part word) =
     cond (nat_lt part d.p) (Ok (filling most (valued d part word) m, [])) (Err (by_sheet (Operand part)))
 at_filling most d m On = adding most d kind.On m
@@ -197,7 +199,7 @@ abbrev pub begins : ℕ → List ℕ → ℕ → Command → Step
 begins most sizes p c = elim (beginning most sizes p (fresh p)) [ Ok b ↦ at_filling most b.0 b.1 c | Err f ↦ Err f ]
 
 abbrev pub at_sizing : ℕ → List ℕ → ℕ → Command → Step
-at_sizing most sizes p (Kind k) = misplaced (Kind k) 1
+at_sizing most sizes p (Kind k) = misplaced (Kind k) state.Sizing
 at_sizing most sizes p (Size n) = part_declared most sizes p n
 at_sizing most sizes p (Value part word) = cond (nat_lt part p) (begins most sizes p (Value part word)) (Err (by_sheet (Operand part)))
 at_sizing most sizes p On = begins most sizes p On
@@ -207,9 +209,9 @@ at_sizing most sizes p Open = begins most sizes p Open
 -- ---- state 3
 
 abbrev pub at_open : Command → Step
-at_open (Kind k) = misplaced (Kind k) 3
-at_open (Size n) = misplaced (Size n) 3
-at_open (Value part word) = misplaced (Value part word) 3
-at_open On = misplaced On 3
-at_open Dc = misplaced Dc 3
-at_open Open = misplaced Open 3
+at_open (Kind k) = misplaced (Kind k) state.Opened
+at_open (Size n) = misplaced (Size n) state.Opened
+at_open (Value part word) = misplaced (Value part word) state.Opened
+at_open On = misplaced On state.Opened
+at_open Dc = misplaced Dc state.Opened
+at_open Open = misplaced Open state.Opened

@@ -1,13 +1,12 @@
 //! The calls in the bench's areas.
 ghost use Rattle.std.specs.Prelude.{◌≡◌, ◌≤◌, replicate, IfOk};
-ghost use Rattle.table.specs.Filling.{whole};
 ghost use Rattle.session.specs.States as session;
 ghost use Rattle.sheet.specs.Bench.{fresh, in_hand, beginning, adding, opening_table};
 ghost use Rattle.sheet.specs.Views.{Small, memory, drafted, draft, step};
 
 use crate::types::{Areas, Draft, Said, Stage};
 use faults::Fault;
-use parts::Part;
+use parts::{Part, whole};
 use session::{Table, add, begin, open};
 use std::alloc::{AllocError, Global};
 use table::card::{Card, Kind};
@@ -59,17 +58,6 @@ pub(crate) fn fresh_areas<P: Part>(heap: Global, p: usize) -> Result<Areas<P>, A
     })
 }
 
-// All values of a part of this size, a bit for each.
-fn full_word(size: usize) -> u64
-    requires { size ≤ 64 }
-    ensures { result ≡ whole size }
-{
-    if size == 0 {
-        return 0;
-    }
-    u64::MAX >> (64 - size)
-}
-
 // The universe as a row of words.
 fn in_hand(sizes: &[usize; 16]) -> [u64; 16]
     requires { Small sizes.now }
@@ -77,7 +65,7 @@ fn in_hand(sizes: &[usize; 16]) -> [u64; 16]
 {
     let mut row = [0; 16];
     for k in 0..16 {
-        row[k] = full_word(sizes[k]);
+        row[k] = whole(sizes[k]);
     }
     row
 }
@@ -90,7 +78,7 @@ pub(crate) fn begin_table<P: Part>(
 ) -> Result<Draft, Fault>
     requires few { p ≤ 16 }
     requires small { Small sizes.now }
-    ensures { draft result (memory P.set areas.new) ≡ beginning P.most sizes.now p (memory P.set areas.old) }
+    ensures { draft result (memory P.set areas.new) ≡ beginning P.MOST sizes.now p (memory P.set areas.old) }
 {
     let table = begin(p, sizes, &mut areas.universe)?;
     let row = in_hand(sizes);
@@ -108,7 +96,7 @@ pub(crate) fn add_row<P: Part>(
     kind: Kind,
     areas: &mut Areas<P>,
 ) -> Result<(Stage, Said), Fault>
-    ensures { step P.most result (memory P.set areas.new) ≡ adding P.most (drafted d) kind (memory P.set areas.old) }
+    ensures { step P.MOST result (memory P.set areas.new) ≡ adding P.MOST (drafted d) kind (memory P.set areas.old) }
 {
     let Draft {
         table,
@@ -143,7 +131,7 @@ pub(crate) fn add_row<P: Part>(
 
 /// Opens the table.
 pub(crate) fn open_table<P: Part>(t: Table, areas: &mut Areas<P>) -> Result<(Stage, Said), Fault>
-    ensures { step P.most result (memory P.set areas.new) ≡ opening_table (session.filling t) (memory P.set areas.old) }
+    ensures { step P.MOST result (memory P.set areas.new) ≡ opening_table (session.filling t) (memory P.set areas.old) }
 {
     match open(
         t,

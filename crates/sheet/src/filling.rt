@@ -5,28 +5,28 @@ ghost use Rattle.sheet.specs.Lines.{obeyed, lines_from};
 ghost use Rattle.sheet.specs.Views.{Small, memory, drafted, state, step, lines_begun};
 
 use crate::areas::{add_row, begin_table, fresh_areas, open_table};
-use crate::stage::{by_sheet, misplaced, refuse};
+use crate::stage::{misplaced, refuse};
 use crate::types::{Areas, Draft, Said, Stage};
 use commands::{Command, read};
-use faults::{Cause, Fault};
+use faults::{Cause, Fault, Layer, State};
 use parts::Part;
 use std::alloc::{AllocError, Global};
 use table::card::Kind;
 
 // A command on a table that is being filled.
 fn fill<P: Part>(d: Draft, command: Command, areas: &mut Areas<P>) -> Result<(Stage, Said), Fault>
-    ensures { step P.most result (memory P.set areas.new) ≡ at_filling P.most (drafted d) (memory P.set areas.old) command }
+    ensures { step P.MOST result (memory P.set areas.new) ≡ at_filling P.MOST (drafted d) (memory P.set areas.old) command }
 {
     match command {
         Command::Kind(_) | Command::Size(_) => {
             d.close();
-            Err(misplaced(command, 2))
+            Err(misplaced(command, State::Filling))
         }
         Command::Value { part, word } => {
             let k = part as usize;
             if k >= d.p {
                 d.close();
-                return Err(by_sheet(Cause::Operand { value: part }));
+                return Err(Cause::Operand { value: part }.by(Layer::Sheet));
             }
             let Draft {
                 table,
@@ -63,13 +63,13 @@ fn obey<P: Part>(
     command: Command,
     areas: &mut Areas<P>,
 ) -> Result<(Stage, Said), Fault>
-    ensures { step P.most result (memory P.set areas.new) ≡ obeyed (state P.most stage (memory P.set areas.old)) command }
+    ensures { step P.MOST result (memory P.set areas.new) ≡ obeyed (state P.MOST stage (memory P.set areas.old)) command }
 {
     match stage {
         Stage::Filling(d) => fill(d, command, areas),
         Stage::Opened(o) => {
             let _ = o.close();
-            Err(misplaced(command, 3))
+            Err(misplaced(command, State::Opened))
         }
     }
 }
@@ -83,7 +83,7 @@ fn run<P: Part>(
     areas: &mut Areas<P>,
 ) -> Result<String, AllocError>
     requires { length bytes.now ≤ end }
-    ensures { IfOk result (λ s. string_bytes s ≡ lines_from end (state P.most stage (memory P.set areas.old)) bytes.now) }
+    ensures { IfOk result (λ s. string_bytes s ≡ lines_from end (state P.MOST stage (memory P.set areas.old)) bytes.now) }
 {
     let mut out = String::new(heap);
     let mut stage = stage;
@@ -97,7 +97,7 @@ fn run<P: Part>(
             }
             Err(cause) => {
                 stage.close();
-                return refuse(heap, out, by_sheet(cause), at);
+                return refuse(heap, out, cause.by(Layer::Sheet), at);
             }
             Ok(Some((command, rest))) => match obey(stage, command, areas) {
                 Err(fault) => return refuse(heap, out, fault, at),
@@ -131,7 +131,7 @@ pub(crate) fn fill_table<P: Part>(
     requires few { p ≤ 16 }
     requires small { Small sizes.now }
     requires within { length bytes.now ≤ end }
-    ensures { IfOk result (λ s. string_bytes s ≡ lines_begun end P.most (beginning P.most sizes.now p (fresh p)) bytes.now) }
+    ensures { IfOk result (λ s. string_bytes s ≡ lines_begun end P.MOST (beginning P.MOST sizes.now p (fresh p)) bytes.now) }
 {
     let mut areas = fresh_areas::<P>(heap, p)?;
     match begin_table(p, sizes, &mut areas) {

@@ -12,10 +12,9 @@ ghost use Rattle.std.specs.Prelude.{◌≡◌, length, IfOk, string_bytes, nat_l
 ghost use Rattle.sheet.specs.Lines.{lines_of};
 
 use commands::read;
-use faults::Cause;
+use faults::{Cause, Layer};
 use parts::{Ternary, Word};
 use sizing::size_parts;
-use stage::by_sheet;
 use starting::choose;
 use std::alloc::{AllocError, Global};
 use types::Kind;
@@ -35,11 +34,11 @@ pub fn lines(heap: Global, sheet: &[u8]) -> Result<String, AllocError>
     ensures { IfOk result (λ s. string_bytes s ≡ lines_of sheet.now) }
 {
     if is_long(sheet) {
-        return by_sheet(Cause::Long).line(heap, 0);
+        return Cause::Long.by(Layer::Sheet).line(heap, 0);
     }
     match read(sheet) {
         Ok(None) => Ok(String::new(heap)),
-        Err(cause) => by_sheet(cause).line(heap, 0),
+        Err(cause) => cause.by(Layer::Sheet).line(heap, 0),
         Ok(Some((command, rest))) => match choose(command) {
             Err(fault) => fault.line(heap, 0),
             Ok(Kind::Word) => size_parts::<Word>(heap, rest, sheet.len()),

@@ -5,10 +5,10 @@ ghost use Rattle.sheet.specs.Lines.{lines_from};
 ghost use Rattle.sheet.specs.Views.{Small, sized};
 
 use crate::filling::fill_table;
-use crate::stage::{by_sheet, misplaced};
+use crate::stage::misplaced;
 use crate::types::Next;
 use commands::{Command, read};
-use faults::{Cause, Fault, Layer};
+use faults::{Cause, Fault, Layer, State};
 use parts::Part;
 use std::alloc::{AllocError, Global};
 
@@ -16,28 +16,24 @@ use std::alloc::{AllocError, Global};
 fn declare<P: Part>(sizes: &mut [usize; 16], p: usize, size: u8) -> Result<Next, Fault>
     requires few { p ≤ 16 }
     requires small { Small sizes.old }
-    ensures step { sized P.most p (Command.Size size) result sizes.new ≡ part_declared P.most sizes.old p size }
+    ensures step { sized P.MOST p (Command.Size size) result sizes.new ≡ part_declared P.MOST sizes.old p size }
     ensures few { OnOk result (p < 16) }
     ensures small { Small sizes.new }
 {
     let size = size as usize;
     if p >= 16 {
-        return Err(Fault {
-            layer: Layer::Table,
-            cause: Cause::Shape {
-                first: p + 1,
-                second: 0,
-            },
-        });
+        let cause = Cause::Shape {
+            first: p + 1,
+            second: 0,
+        };
+        return Err(cause.by(Layer::Table));
     }
-    if size < 1 || size > P::most_values() as usize {
-        return Err(Fault {
-            layer: Layer::Table,
-            cause: Cause::Shape {
-                first: p,
-                second: size,
-            },
-        });
+    if size < 1 || size > P::MOST as usize {
+        let cause = Cause::Shape {
+            first: p,
+            second: size,
+        };
+        return Err(cause.by(Layer::Table));
     }
     sizes[p] = size;
     Ok(Next::Part)
@@ -47,16 +43,16 @@ fn declare<P: Part>(sizes: &mut [usize; 16], p: usize, size: u8) -> Result<Next,
 fn size<P: Part>(sizes: &mut [usize; 16], p: usize, command: Command) -> Result<Next, Fault>
     requires few { p ≤ 16 }
     requires small { Small sizes.old }
-    ensures step { sized P.most p command result sizes.new ≡ at_sizing P.most sizes.old p command }
+    ensures step { sized P.MOST p command result sizes.new ≡ at_sizing P.MOST sizes.old p command }
     ensures few { result ≡ Ok Next.Part → p < 16 }
     ensures small { Small sizes.new }
 {
     match command {
-        Command::Kind(_) => Err(misplaced(command, 1)),
+        Command::Kind(_) => Err(misplaced(command, State::Sizing)),
         Command::Size(size) => declare::<P>(sizes, p, size),
         Command::Value { part, .. } => {
             if part as usize >= p {
-                return Err(by_sheet(Cause::Operand { value: part }));
+                return Err(Cause::Operand { value: part }.by(Layer::Sheet));
             }
             Ok(Next::Table)
         }
@@ -71,7 +67,7 @@ pub(crate) fn size_parts<P: Part>(
     end: usize,
 ) -> Result<String, AllocError>
     requires { length bytes.now ≤ end }
-    ensures { IfOk result (λ s. string_bytes s ≡ lines_from end (sizing P.most (replicate 16 0) 0) bytes.now) }
+    ensures { IfOk result (λ s. string_bytes s ≡ lines_from end (sizing P.MOST (replicate 16 0) 0) bytes.now) }
 {
     let mut sizes = [0; 16];
     let mut p = 0;
@@ -80,7 +76,7 @@ pub(crate) fn size_parts<P: Part>(
         let at = end - bytes.len();
         match read(bytes) {
             Ok(None) => return Ok(String::new(heap)),
-            Err(cause) => return by_sheet(cause).line(heap, at),
+            Err(cause) => return cause.by(Layer::Sheet).line(heap, at),
             Ok(Some((command, rest))) => match size::<P>(&mut sizes, p, command) {
                 Err(fault) => return fault.line(heap, at),
                 Ok(Next::Table) => return fill_table::<P>(heap, p, &sizes, bytes, end),

@@ -7,7 +7,7 @@ ghost use Rattle.sheet.specs.Views.{said_line};
 
 use crate::types::{Draft, Said, Stage};
 use commands::Command;
-use faults::{Cause, Fault, Layer};
+use faults::{Cause, Fault, Layer, State};
 use std::alloc::{AllocError, Global};
 
 impl Draft {
@@ -51,24 +51,15 @@ impl Said {
     }
 }
 
-/// A refusal of the sheet.
-pub(crate) fn by_sheet(cause: Cause) -> Fault
-    ensures { result ≡ by_sheet cause }
-{
-    Fault {
-        layer: Layer::Sheet,
-        cause,
-    }
-}
-
 /// The refusal of a command in a state where it is not allowed.
-pub(crate) fn misplaced(command: Command, state: u8) -> Fault
+pub(crate) fn misplaced(command: Command, state: State) -> Fault
     ensures { result ≡ by_sheet (Cause.Misplaced (letter command) state) }
 {
-    by_sheet(Cause::Misplaced {
+    Cause::Misplaced {
         command: command.byte(),
         state,
-    })
+    }
+    .by(Layer::Sheet)
 }
 
 /// The lines so far and the refusal's.

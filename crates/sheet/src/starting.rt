@@ -3,10 +3,10 @@ ghost use Rattle.std.specs.Prelude.{◌≡◌};
 ghost use Rattle.sheet.specs.Bench.{at_start};
 ghost use Rattle.sheet.specs.Views.{chosen};
 
-use crate::stage::{by_sheet, misplaced};
+use crate::stage::misplaced;
 use crate::types::Kind;
 use commands::Command;
-use faults::{Cause, Fault};
+use faults::{Cause, Fault, Layer, State};
 
 /// A command in state 0.
 pub(crate) fn choose(command: Command) -> Result<Kind, Fault>
@@ -15,9 +15,9 @@ pub(crate) fn choose(command: Command) -> Result<Kind, Fault>
     match command {
         Command::Kind(0) => Ok(Kind::Word),
         Command::Kind(1) => Ok(Kind::Ternary),
-        Command::Kind(value) => Err(by_sheet(Cause::Operand { value })),
+        Command::Kind(value) => Err(Cause::Operand { value }.by(Layer::Sheet)),
         Command::Size(_) | Command::Value { .. } | Command::On | Command::Dc | Command::Open => Err(
-            misplaced(command, 0),
+            misplaced(command, State::Start),
         ),
     }
 }

@@ -6,19 +6,20 @@ use lib.Bits.{bit_or}
 use lib.Pow.{ones_lt, ones_split}
 use Rattle.std.proofs.lemmas.Nat.{shr_high}
 use lib.Count.{count_trailing_zeros}
-use Rattle.parts.specs.Sets.{has, minus}
-use Rattle.parts.proofs.Bits.{has-or, has_low, has_only, same}
+use Rattle.std.specs.List.{list_all, zip}
+use Rattle.parts.specs.Sets.{minus, whole}
 use Rattle.cubes.specs.Areas.{cube_at}
 use Rattle.cubes.specs.Cubes.{Cube, same as same_parts}
 use Rattle.table.specs.declared.card.Card.{Card}
-use Rattle.table.specs.declared.card.Kind.{Kind}
-use Rattle.table.specs.Cards.{area_length, rows_of, is_on, blank, is_on_kind, kind_number}
+use Rattle.faults.specs.declared.Kind.{Kind}
+use Rattle.faults.specs.Codes.{is_on_kind}
+use Rattle.table.specs.Cards.{area_length, rows_of, is_on, blank}
 use Rattle.std.proofs.lemmas.List.{drop_more, drop_all, get_or-take, length-take, length-map, get_or-map, get_or_default, map_more, set_at, append_assoc, drop-drop, get_or-drop}
 use Rattle.faults.specs.declared.Cause.{Cause}
 use Rattle.faults.specs.declared.Cause.TheVariants.{Shape, Area, Empty, Outside, Repeat, Full}
 use Rattle.std.proofs.lemmas.Bool.{le-ltb, ltb-false, eqb-true}
 use Rattle.std.proofs.lemmas.Bool.Decides.{nat_tests}
-use Rattle.table.specs.Filling.{Verdict, ◌then◌, area_verdict, sizes_verdict, shape_verdict, whole, universe_of, empty_verdict, outside_verdict, repeat_verdict, full_verdict, add_verdict}
+use Rattle.table.specs.Filling.{Verdict, ◌then◌, area_verdict, sizes_verdict, shape_verdict, universe_of, empty_verdict, outside_verdict, repeat_verdict, full_verdict, add_verdict}
 
 -- what is left of the first p, from k on
 left : (p k : ℕ) (xs : List ℕ) → k < p → p ≤ length xs → drop k (take p xs) ≡ get_or xs k 0 ∷ drop (k + 1) (take p xs)
@@ -47,16 +48,6 @@ pub sizes_passed : (most p k : ℕ) (xs : List ℕ) → k < p → p ≤ length x
     → sizes_verdict most k (drop k (take p xs)) ≡ sizes_verdict most (k + 1) (drop (k + 1) (take p xs))
 sizes_passed most p k xs h l a b =
     let t : (ltb (get_or xs k 0) 1 || ltb most (get_or xs k 0)) ≡ false = grind (arith, nat_tests) in sizes_step most p k xs h l ∙ rw t
-
--- a word of ones, shifted down
-pub whole_word : (size most : ℕ) → size ≤ most → most ≤ 64 → (2 ^ 64 - 1) / 2 ^ (64 - size) % 2 ^ most ≡ whole size
-whole_word size most h l =
-    let k = 64 - size in
-    let e : size + k ≡ 64 = omega arith in
-    let split : 2 ^ 64 - 1 ≡ (2 ^ size - 1) * 2 ^ k + (2 ^ k - 1) = ap (λ n. 2 ^ n - 1) (sym e) ∙ ones_split size k in
-    let d : (2 ^ 64 - 1) / 2 ^ k ≡ 2 ^ size - 1 = ap (λ n. n / 2 ^ k) split ∙ shr_high (2 ^ size - 1) k (2 ^ k - 1) (ones_lt k) in
-    let low : 2 ^ size ≤ 2 ^ most = pow_mono h in
-    ap (λ n. n % 2 ^ most) d ∙ mod-eq_of_lt (omega (arith, one-le-pow size 2 (omega arith)))
 
 -- a check that passed found nothing
 pub passed : (t : Bool) (c : Cause) (v : Verdict) → cond t (Err c) v ≡ Ok tt → (t ≡ false) × (v ≡ Ok tt)
@@ -126,12 +117,12 @@ outside_end A U k (inr h) = rw (drop_all k U h) (none k (drop k A))
 
 -- ---- a cube beside a row that words make
 
-pub same_step : {X : Type 0} (s : X → ℕ) (f : ℕ → ℕ) (xs : List X) (ws : List ℕ) (k : ℕ) (x : X) → k < length xs → k < length ws → x ≡ get_or xs k x
-    → same_parts (drop k (map s xs)) (drop k (map f ws)) ≡ (eqb (s x) (f (get_or ws k 0)) && same_parts (drop (k + 1) (map s xs)) (drop (k + 1) (map f ws)))
-same_step s f xs ws k x h l e = rw (row-left s xs k x h e, word_left f ws k l)
-
-pub same_end : (A B : List ℕ) (k : ℕ) → length A ≤ k → length B ≤ k → same_parts (drop k A) (drop k B) ≡ true
-same_end A B k h l = rw (drop_all k A h, drop_all k B l)
+pub same_all : {X : Type 0} (s : X → ℕ) (f : ℕ → ℕ) (xs : List X) (ws : List ℕ) → length xs ≡ length ws
+    → same_parts (map s xs) (map f ws) ≡ list_all (λ (q : X × ℕ). eqb (s q.0) (f q.1)) (zip xs ws)
+same_all s f [] [] e = refl
+same_all s f [] (w ∷ ws) e = absurd (omega arith)
+same_all s f (x ∷ xs) [] e = absurd (omega arith)
+same_all s f (x ∷ xs) (w ∷ ws) e = ap (λ b. eqb (s x) (f w) && b) (same_all s f xs ws (omega arith))
 
 -- ---- verdicts one after another
 
@@ -150,22 +141,6 @@ fits_area p parts beside n h l = ((le-div_iff_mul-le h).0 (omega arith), omega a
 
 pub first_cube : {X : Type 0} (p : ℕ) (xs : List X) → cube_at p 0 xs ≡ take p xs
 first_cube p xs = let e : 0 * p ≡ 0 = omega arith in rw e
-
--- ---- the values of a set, gathered into a word
-
-pub gather_more : (s v : ℕ) → has s v ≡ true → bit_or (s % 2 ^ v) (2 ^ v) ≡ s % 2 ^ (v + 1)
-gather_more s v h = same _ _ (λ u. has-or (s % 2 ^ v) (2 ^ v) u ∙ rw (has_low v s u, has_only v u) (step u (ltb u v) (eqb u v) refl refl) ∙ sym (has_low (v + 1) s u))
-  where
-    step : (u : ℕ) (a b : Bool) → ltb u v ≡ a → eqb u v ≡ b → ((ltb u v && has s u) || eqb u v) ≡ (ltb u (v + 1) && has s u)
-    step u a true e f = let q : u ≡ v = eqb-true u v f in let t : has s u ≡ true = ap (has s) q ∙ h in grind (arith, nat_tests)
-    step u a false e f = grind (arith, nat_tests)
-
-pub gather_same : (s v : ℕ) → has s v ≡ false → s % 2 ^ v ≡ s % 2 ^ (v + 1)
-gather_same s v h = same _ _ (λ u. has_low v s u ∙ step u (eqb u v) refl ∙ sym (has_low (v + 1) s u))
-  where
-    step : (u : ℕ) (b : Bool) → eqb u v ≡ b → (ltb u v && has s u) ≡ (ltb u (v + 1) && has s u)
-    step u true f = let q : u ≡ v = eqb-true u v f in let t : has s u ≡ false = ap (has s) q ∙ h in grind (arith, nat_tests)
-    step u false f = grind (arith, nat_tests)
 
 -- ---- rows
 
@@ -186,7 +161,7 @@ rows_left p (suc n) (suc i) ts cs h =
 
 pub repeat_step : (kind : Kind) (A : Cube) (p n i : ℕ) (ts : List ℕ) (cs : List Card) → i < n
     → repeat_verdict kind A i (drop i (rows_of p n ts cs))
-    ≡ cond (beq (is_on (get_or cs i blank)) (is_on_kind kind) && same_parts (cube_at p i ts) A) (Err (Repeat i (kind_number kind)))
+    ≡ cond (beq (is_on (get_or cs i blank)) (is_on_kind kind) && same_parts (cube_at p i ts) A) (Err (Repeat i kind))
     (repeat_verdict kind A (i + 1) (drop (i + 1) (rows_of p n ts cs)))
 repeat_step kind A p n i ts cs h = rw (rows_left p n i ts cs h, add-one)
 

@@ -2,8 +2,8 @@
 use Rattle.std.specs.Prelude.{ℕ, zero, suc, ◌+◌, ◌/◌, min, Bool, true, false, cond, List, [], ◌∷◌, take, drop, ◌==◌, slice_index_or}
 use Rattle.cubes.specs.Tables.{Row}
 use Rattle.table.specs.declared.card.Card.{Card}
-use Rattle.table.specs.declared.card.Kind.{Kind}
-use Rattle.table.specs.declared.card.Kind.TheVariants.{On, Dc}
+use Rattle.faults.specs.Codes.{kind_number}
+use Rattle.faults.specs.declared.Kind.{Kind}
 
 -- a card that is all zeros
 abbrev pub blank : Card
@@ -12,15 +12,6 @@ blank = record { kind = 0; weight = 0; place = 0; taken = false; tried = false; 
 -- ON is 0; any other kind is DC
 abbrev pub is_on : Card → Bool
 is_on c = c.kind == 0
-
--- what Add writes for a kind
-abbrev pub kind_number : Kind → ℕ
-kind_number On = 0
-kind_number Dc = 1
-
-abbrev pub is_on_kind : Kind → Bool
-is_on_kind On = true
-is_on_kind Dc = false
 
 -- the card of a row that is added at a place
 abbrev pub row_card : Kind → ℕ → Card

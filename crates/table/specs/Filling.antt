@@ -4,12 +4,13 @@ use Rattle.std.specs.Bool.{beq}
 use Rattle.std.specs.Int.Count.{count_trailing_zeros}
 use Rattle.faults.specs.declared.Cause.{Cause}
 use Rattle.faults.specs.declared.Cause.TheVariants.{Shape, Area, Empty, Outside, Repeat, Full}
-use Rattle.parts.specs.Sets.{has, minus}
+use Rattle.parts.specs.Sets.{has, minus, whole}
 use Rattle.cubes.specs.Cubes.{Cube, same}
 use Rattle.cubes.specs.Tables.{Row}
 use Rattle.table.specs.declared.card.Card.{Card}
-use Rattle.table.specs.declared.card.Kind.{Kind}
-use Rattle.table.specs.Cards.{kind_number, is_on_kind, area_length, rows_of}
+use Rattle.faults.specs.declared.Kind.{Kind}
+use Rattle.faults.specs.Codes.{is_on_kind}
+use Rattle.table.specs.Cards.{area_length, rows_of}
 
 abbrev pub Verdict : Type 0
 Verdict = Result (Unit {0}) Cause
@@ -36,10 +37,6 @@ shape_verdict most p sizes = cond (nat_lt p 1 || nat_lt 16 p) (Err (Shape p 0)) 
 
 abbrev pub begin_verdict : ℕ → ℕ → List ℕ → ℕ → Verdict
 begin_verdict most p sizes has = shape_verdict most p sizes then area_verdict 1 has p
-
--- the values 0 up to a size less 1
-abbrev pub whole : ℕ → ℕ
-whole size = 2 ^ size - 1
 
 -- the universe that p and the sizes make
 abbrev pub universe_of : ℕ → List ℕ → Cube
@@ -72,7 +69,7 @@ outside_verdict k (a ∷ A) (u ∷ U) =
 abbrev pub repeat_verdict : Kind → Cube → ℕ → List Row → Verdict
 repeat_verdict kind A i [] = Ok tt
 repeat_verdict kind A i (r ∷ T) =
-    cond (beq r.on (is_on_kind kind) && same r.cube A) (Err (Repeat i (kind_number kind))) (repeat_verdict kind A (suc i) T)
+    cond (beq r.on (is_on_kind kind) && same r.cube A) (Err (Repeat i kind)) (repeat_verdict kind A (suc i) T)
 
 -- there are 512 rows, or the table area has no place for one more
 abbrev pub full_verdict : ℕ → ℕ → Verdict

@@ -1,7 +1,8 @@
 //! Begin: a universe from its sizes.
 ghost use Rattle.std.specs.Prelude.{◌≡◌, ℕ, ◌≤◌, map, length, drop, is_ok, if◌then◌else◌, Ok};
 ghost use Rattle.cubes.specs.Areas.{overlay};
-ghost use Rattle.table.specs.Filling.{shape_verdict, area_verdict, begin_verdict, universe_of, whole as whole_of};
+ghost use Rattle.parts.specs.Sets.{whole as whole_of};
+ghost use Rattle.table.specs.Filling.{shape_verdict, area_verdict, begin_verdict, universe_of};
 
 use faults::Cause;
 use parts::Part;
@@ -18,7 +19,7 @@ pub fn check_area(area: usize, has: usize, needed: usize) -> Result<(), Cause>
 
 /// Whether the number of parts is 1 to 16, and the size of each of them 1 to the kind's most.
 pub fn check_shape<P: Part>(p: usize, sizes: &[usize; 16]) -> Result<(), Cause>
-    ensures { result ≡ shape_verdict P.most p sizes.now }
+    ensures { result ≡ shape_verdict P.MOST p sizes.now }
 {
     if p < 1 || p > 16 {
         return Err(Cause::Shape {
@@ -26,7 +27,7 @@ pub fn check_shape<P: Part>(p: usize, sizes: &[usize; 16]) -> Result<(), Cause>
             second: 0,
         });
     }
-    let most = P::most_values() as usize;
+    let most = P::MOST as usize;
     for k in 0..p {
         let size = sizes[k];
         if size < 1 || size > most {
@@ -41,15 +42,15 @@ pub fn check_shape<P: Part>(p: usize, sizes: &[usize; 16]) -> Result<(), Cause>
 
 // All values below a size.
 fn whole<P: Part>(size: usize) -> P
-    requires { (1 ≤ size) × (size ≤ P.most) }
+    requires { (1 ≤ size) × (size ≤ P.MOST) }
     ensures { P.set result ≡ whole_of size }
 {
-    P::make(u64::MAX >> (64 - size))
+    P::make(parts::whole(size))
 }
 
 // Writes the universe of sizes that were checked.
 fn write_universe<P: Part>(p: usize, sizes: &[usize; 16], universe: &mut [P])
-    requires shape { shape_verdict P.most p sizes.now ≡ Ok tt }
+    requires shape { shape_verdict P.MOST p sizes.now ≡ Ok tt }
     requires room { p ≤ length universe.old }
     ensures sets { map P.set universe.new ≡ overlay (universe_of p sizes.now) (map P.set universe.old) }
     ensures stays { drop p universe.new ≡ drop p universe.old }
@@ -65,7 +66,7 @@ pub fn begin_universe<P: Part>(
     sizes: &[usize; 16],
     universe: &mut [P],
 ) -> Result<(), Cause>
-    ensures answer { result ≡ begin_verdict P.most p sizes.now (length universe.old) }
+    ensures answer { result ≡ begin_verdict P.MOST p sizes.now (length universe.old) }
     ensures sets { map P.set universe.new ≡ (if is_ok result then overlay (universe_of p sizes.now) (map P.set universe.old) else map P.set universe.old) }
     ensures stays { drop (if is_ok result then p else 0) universe.new ≡ drop (if is_ok result then p else 0) universe.old }
 {

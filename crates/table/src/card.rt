@@ -1,4 +1,8 @@
 //! Cards: what lies beside each cube of table and solution.
+ghost use Rattle.std.specs.Prelude.{◌≡◌};
+ghost use Rattle.table.specs.Cards.{blank, is_on, row_card};
+
+pub use faults::Kind;
 
 /// The card of a cube. Add writes the kind and the starting place of a row; the engine keeps its weights and marks here.
 #[derive(Clone, Copy)]
@@ -17,9 +21,36 @@ pub struct Card {
     pub out: bool,
 }
 
-/// Whether a row says what must be held (ON) or what may be (DC, don't care).
-#[derive(Clone, Copy)]
-pub enum Kind {
-    On,
-    Dc,
+impl Card {
+    /// All zeros.
+    pub fn blank() -> Card
+        ensures { result ≡ blank }
+    {
+        Card {
+            kind: 0,
+            weight: 0,
+            place: 0,
+            taken: false,
+            tried: false,
+            out: false,
+        }
+    }
+
+    /// The card of a row that is added at a place.
+    pub fn of_row(kind: Kind, place: usize) -> Card
+        ensures { result ≡ row_card kind place }
+    {
+        Card {
+            kind: kind as u8,
+            place,
+            ..Card::blank()
+        }
+    }
+
+    /// Whether it is the card of an ON row.
+    pub fn is_on(&self) -> bool
+        ensures { result ≡ is_on self.now }
+    {
+        self.kind == 0
+    }
 }

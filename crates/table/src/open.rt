@@ -10,22 +10,6 @@ use cubes::area::{copy_cube, cube_at};
 use faults::Cause;
 use parts::Part;
 
-impl Card {
-    /// All zeros.
-    pub fn blank() -> Card
-        ensures { result ≡ blank }
-    {
-        Card {
-            kind: 0,
-            weight: 0,
-            place: 0,
-            taken: false,
-            tried: false,
-            out: false,
-        }
-    }
-}
-
 /// How many of the first `rows` cards are ON.
 pub fn count_on(rows: usize, cards: &[Card]) -> usize
     requires { rows ≤ length cards.now }

@@ -1,40 +1,18 @@
 //! Add: one row more.
-ghost use Rattle.std.specs.Prelude.{◌≡◌, ℕ, ◌+◌, ◌*◌, ◌<◌, ◌≤◌, true, map, length, take, drop, set as edited, is_ok, if◌then◌else◌};
+ghost use Rattle.std.specs.Prelude.{◌≡◌, ℕ, ◌+◌, ◌*◌, ◌%◌, ◌^◌, ◌<◌, ◌≤◌, ◌==◌, true, map, length, take, drop, set as edited, is_ok, if◌then◌else◌};
 ghost use Rattle.std.specs.Int.Count.{count_trailing_zeros};
 ghost use Rattle.std.proofs.Math.Seq.{paste};
 ghost use Rattle.parts.specs.Sets.{some};
 ghost use Rattle.cubes.specs.Areas.{put_at};
 ghost use Rattle.cubes.specs.Cubes.{same};
-ghost use Rattle.table.specs.Cards.{row_card, rows_of, area_length, kind_number, is_on_kind};
+ghost use Rattle.table.specs.Cards.{row_card, rows_of, area_length};
 ghost use Rattle.table.specs.Filling.{empty_verdict, outside_verdict, repeat_verdict, full_verdict, row_verdict, add_verdict, made_row, Lowest};
 
 use crate::begin::check_area;
 use crate::card::{Card, Kind};
 use cubes::area::cube_at;
 use faults::Cause;
-use parts::Part;
-
-impl Kind {
-    /// The number that a card has for it.
-    pub(crate) fn number(self) -> u8
-        ensures { result ≡ kind_number self }
-    {
-        match self {
-            Kind::On => 0,
-            Kind::Dc => 1,
-        }
-    }
-
-    /// Whether it is ON.
-    pub(crate) fn is_on(self) -> bool
-        ensures { result ≡ is_on_kind self }
-    {
-        match self {
-            Kind::On => true,
-            Kind::Dc => false,
-        }
-    }
-}
+use parts::{Part, lies_within, word_of};
 
 // How many cubes of `p` parts an area has, with so many cards or numbers beside them.
 pub fn area_length(p: usize, parts: usize, beside: usize) -> usize
@@ -46,7 +24,7 @@ pub fn area_length(p: usize, parts: usize, beside: usize) -> usize
 
 // Whether each part of the row that the words make has a value.
 fn check_empty<P: Part>(words: &[u64]) -> Result<(), Cause>
-    ensures { result ≡ empty_verdict 0 (made_row P.most words.now) }
+    ensures { result ≡ empty_verdict 0 (made_row P.MOST words.now) }
 {
     for part in 0..words.len() {
         if P::make(words[part]).is_empty() {
@@ -56,23 +34,17 @@ fn check_empty<P: Part>(words: &[u64]) -> Result<(), Cause>
     Ok(())
 }
 
-// The lowest value of a set, which has one: its values are gathered into a word, one by one.
+// The lowest value of a set, which has one.
 fn lowest<P: Part>(values: P) -> usize
     ensures value { result ≡ count_trailing_zeros 64 (P.set values) }
     ensures least { some (P.set values) ≡ true → Lowest (P.set values) result }
 {
-    let mut word: u64 = 0;
-    for v in 0..P::most_values() {
-        if values.contains(v) {
-            word |= 1 << v;
-        }
-    }
-    word.trailing_zeros() as usize
+    word_of(values).trailing_zeros() as usize
 }
 
 // Whether the row that the words make has no value that the universe lacks.
 fn check_outside<P: Part>(words: &[u64], universe: &[P]) -> Result<(), Cause>
-    ensures { result ≡ outside_verdict 0 (made_row P.most words.now) (map P.set universe.now) }
+    ensures { result ≡ outside_verdict 0 (made_row P.MOST words.now) (map P.set universe.now) }
 {
     let n = words.len().min(universe.len());
     for part in 0..n {
@@ -87,20 +59,23 @@ fn check_outside<P: Part>(words: &[u64], universe: &[P]) -> Result<(), Cause>
     Ok(())
 }
 
+// Whether a part has the values that a word makes.
+fn is_made<P: Part>(part: P, word: u64) -> bool
+    ensures { result ≡ (P.set part == word % 2 ^ P.MOST) }
+{
+    let made = P::make(word);
+    lies_within(part, made) && lies_within(made, part)
+}
+
 // Whether a cube has the parts of the row that the words make.
 fn same_as_row<P: Part>(cube: &[P], words: &[u64]) -> bool
-    ensures { result ≡ same (map P.set cube.now) (made_row P.most words.now) }
+    ensures { result ≡ same (map P.set cube.now) (made_row P.MOST words.now) }
 {
-    if cube.len() != words.len() {
-        return false;
-    }
-    for k in 0..cube.len() {
-        let part = P::make(words[k]);
-        if !cube[k].outside(part).is_empty() || !part.outside(cube[k]).is_empty() {
-            return false;
-        }
-    }
-    true
+    cube.len() == words.len()
+        && cube
+            .iter()
+            .zip(words)
+            .all(|(part, word)| is_made(*part, *word))
 }
 
 // Whether no earlier row of this kind has the same parts.
@@ -114,14 +89,11 @@ fn check_repeat<P: Part>(
 ) -> Result<(), Cause>
     requires fits { rows * p ≤ length table.now }
     requires beside { rows ≤ length cards.now }
-    ensures { result ≡ repeat_verdict kind (made_row P.most words.now) 0 (rows_of p rows (map P.set table.now) cards.now) }
+    ensures { result ≡ repeat_verdict kind (made_row P.MOST words.now) 0 (rows_of p rows (map P.set table.now) cards.now) }
 {
     for i in 0..rows {
         if (cards[i].kind == 0) == kind.is_on() && same_as_row(cube_at(table, i, p), words) {
-            return Err(Cause::Repeat {
-                row: i,
-                kind: kind.number() as usize,
-            });
+            return Err(Cause::Repeat { row: i, kind });
         }
     }
     Ok(())
@@ -150,7 +122,7 @@ fn check_row<P: Part>(
     requires some { 1 ≤ p }
     requires fits { rows * p ≤ length table.now }
     requires beside { rows ≤ length cards.now }
-    ensures { result ≡ row_verdict p rows kind (made_row P.most words.now) (map P.set universe.now) (map P.set table.now) cards.now }
+    ensures { result ≡ row_verdict p rows kind (made_row P.MOST words.now) (map P.set universe.now) (map P.set table.now) cards.now }
 {
     check_empty::<P>(words)?;
     check_outside(words, universe)?;
@@ -169,7 +141,7 @@ fn check_add<P: Part>(
     cards: &[Card],
 ) -> Result<(), Cause>
     requires some { 1 ≤ p }
-    ensures { result ≡ add_verdict p rows kind (made_row P.most words.now) (map P.set universe.now) (map P.set table.now) cards.now }
+    ensures { result ≡ add_verdict p rows kind (made_row P.MOST words.now) (map P.set universe.now) (map P.set table.now) cards.now }
 {
     check_area(1, universe.len(), p)?;
     check_area(2, area_length(p, table.len(), cards.len()), rows)?;
@@ -179,7 +151,7 @@ fn check_add<P: Part>(
 // Writes the parts of a row.
 fn write_parts<P: Part>(from: usize, words: &[u64], table: &mut [P])
     requires { from + length words.now ≤ length table.old }
-    ensures sets { map P.set table.new ≡ paste (map P.set table.old) from (made_row P.most words.now) (length words.now) }
+    ensures sets { map P.set table.new ≡ paste (map P.set table.old) from (made_row P.MOST words.now) (length words.now) }
     ensures before { take from table.new ≡ take from table.old }
     ensures behind { drop (from + length words.now) table.new ≡ drop (from + length words.now) table.old }
 {
@@ -200,21 +172,14 @@ pub fn add_row<P: Part>(
 ) -> Result<(), Cause>
     requires some { 1 ≤ p }
     requires size { length words.now ≡ p }
-    ensures answer { result ≡ add_verdict p rows kind (made_row P.most words.now) (map P.set universe.now) (map P.set table.old) cards.old }
-    ensures sets { map P.set table.new ≡ (if is_ok result then put_at p rows (made_row P.most words.now) (map P.set table.old) else map P.set table.old) }
+    ensures answer { result ≡ add_verdict p rows kind (made_row P.MOST words.now) (map P.set universe.now) (map P.set table.old) cards.old }
+    ensures sets { map P.set table.new ≡ (if is_ok result then put_at p rows (made_row P.MOST words.now) (map P.set table.old) else map P.set table.old) }
     ensures before { take (rows * p) table.new ≡ take (rows * p) table.old }
     ensures behind { drop (if is_ok result then rows * p + p else 0) table.new ≡ drop (if is_ok result then rows * p + p else 0) table.old }
     ensures cards { cards.new ≡ (if is_ok result then edited cards.old rows (row_card kind rows) else cards.old) }
 {
     check_add(p, rows, kind, words, universe, table, cards)?;
     write_parts(rows * p, words, table);
-    cards[rows] = Card {
-        kind: kind.number(),
-        weight: 0,
-        place: rows,
-        taken: false,
-        tried: false,
-        out: false,
-    };
+    cards[rows] = Card::of_row(kind, rows);
     Ok(())
 }

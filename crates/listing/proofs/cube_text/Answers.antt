@@ -16,19 +16,19 @@ cut text xs last size e f =
 pub overflow_sub-size : goal.overflow_sub-size
 overflow_sub-size g c =
     let s = g.P.Part.set in
-    omega (arith, c.write_cube-size.ensures.size, length_push (cube_text g.P.Part.most (map s c.args.universe.now) (map s c.args.cube.now)) 10)
+    omega (arith, c.write_cube-size.ensures.size, length_push (cube_text g.P.Part.MOST (map s c.args.universe.now) (map s c.args.cube.now)) 10)
 
 pub text_of-requires : goal.text_of-requires
 text_of-requires g c =
     let s = g.P.Part.set in
     let U = map s c.args.universe.now in
     let C = map s c.args.cube.now in
-    let t = cube_text g.P.Part.most U C in
+    let t = cube_text g.P.Part.MOST U C in
     subst IsUtf8 (sym (cut t _ c.write_cube-size.new.line c.write_cube-size.result c.write_cube-size.ensures.text c.write_cube-size.ensures.size))
-    (IsUtf8-from_ascii t (text_ascii g.P.Part.most U C))
+    (IsUtf8-from_ascii t (text_ascii g.P.Part.MOST U C))
 
 pub returns : goal.returns
 returns g c =
     let s = g.P.Part.set in
-    let t = cube_text g.P.Part.most (map s c.args.universe.now) (map s c.args.cube.now) in
+    let t = cube_text g.P.Part.MOST (map s c.args.universe.now) (map s c.args.cube.now) in
     IfOk-weaker c.text_of.result _ _ (λ r e. e ∙ cut t _ c.write_cube-size.new.line c.write_cube-size.result c.write_cube-size.ensures.text c.write_cube-size.ensures.size) c.text_of.ensures

@@ -6,18 +6,18 @@ use Rattle.listing.proofs.write_cube.Goals as goal
 
 pub write_gap-start-requires : goal.write_gap-start-requires
 write_gap-start-requires g c =
-    let short = length_front_le g.P.Part.set g.P.Part.most c.args.universe.now c.args.cube.now c.loop-i.i g.met.P.Part.range.1 (omega arith) in
+    let short = length_front_le g.P.Part.set g.P.Part.MOST c.args.universe.now c.args.cube.now c.loop-i.i g.met.P.Part.range.1 (omega arith) in
     omega (arith, c.loop-i.invariant.place, short)
 
 pub write_part-end-requires : goal.write_part-end-requires
 write_part-end-requires g c =
-    let short = length_front_le g.P.Part.set g.P.Part.most c.args.universe.now c.args.cube.now c.loop-i.i g.met.P.Part.range.1 (omega arith) in
-    omega (arith, c.loop-i.invariant.place, c.write_gap-start.ensures.place, short, length_gap_le g.P.Part.most c.loop-i.i)
+    let short = length_front_le g.P.Part.set g.P.Part.MOST c.args.universe.now c.args.cube.now c.loop-i.i g.met.P.Part.range.1 (omega arith) in
+    omega (arith, c.loop-i.invariant.place, c.write_gap-start.ensures.place, short, length_gap_le g.P.Part.MOST c.loop-i.i)
 
 pub loop-i-preserved : goal.loop-i-preserved
 loop-i-preserved g c =
     let s = g.P.Part.set in
-    let most = g.P.Part.most in
+    let most = g.P.Part.MOST in
     let i = c.loop-i.i in
     let u = c.index-universe-i.result in
     let p = c.index-cube-i.result in
@@ -33,18 +33,18 @@ loop-i-preserved g c =
 
 pub bounds-line-end : goal.bounds-line-end
 bounds-line-end g c =
-    let short = length_front_le g.P.Part.set g.P.Part.most c.args.universe.now c.args.cube.now c.loop-i.i g.met.P.Part.range.1 (omega arith) in
+    let short = length_front_le g.P.Part.set g.P.Part.MOST c.args.universe.now c.args.cube.now c.loop-i.i g.met.P.Part.range.1 (omega arith) in
     omega (arith, c.loop-i.invariant.place, short)
 
 pub overflow_add-result : goal.overflow_add-result
 overflow_add-result g c =
-    let short = length_front_le g.P.Part.set g.P.Part.most c.args.universe.now c.args.cube.now c.loop-i.i g.met.P.Part.range.1 (omega arith) in
+    let short = length_front_le g.P.Part.set g.P.Part.MOST c.args.universe.now c.args.cube.now c.loop-i.i g.met.P.Part.range.1 (omega arith) in
     omega (arith, c.loop-i.invariant.place, short)
 
 pub returns : goal.returns
 returns g c =
     let s = g.P.Part.set in
-    let most = g.P.Part.most in
+    let most = g.P.Part.MOST in
     let i = c.loop-i.i in
     let U = c.args.universe.now in
     let C = c.args.cube.now in

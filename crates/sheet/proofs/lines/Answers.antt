@@ -18,7 +18,7 @@ kind_said sheet rest c s l e r h =
 pub returns-then-is_long : goal.returns-then-is_long
 returns-then-is_long c =
     let long : ltb 4096 (length c.args.sheet.now) ≡ true = search rules in
-    said_so string_bytes c.line.result _ _ (ap (λ f. refusal_line f 0) c.by_sheet.ensures ∙ sym (cond-true _ _ _ long)) c.line.ensures
+    said_so string_bytes c.line.result _ _ (ap (λ f. refusal_line f 0) c.by.ensures ∙ sym (cond-true _ _ _ long)) c.line.ensures
 
 pub returns-in-Ok-Word : goal.returns-in-Ok-Word
 returns-in-Ok-Word c =

@@ -9,7 +9,7 @@ loop-part-preserved g c =
     let i = c.loop-part.part-index in
     let xs = map s c.loop-part.area in
     let h : i < length xs = rw length-map (omega arith) in
-    let none : s c.make-none.result ≡ 0 = c.make-none.ensures.value ∙ zero-mod (2 ^ g.P.Part.most) in
+    let none : s c.make-none.result ≡ 0 = c.make-none.ensures.value ∙ zero-mod (2 ^ g.P.Part.MOST) in
     rw (map-set, none, take_more_set xs i 0 h, c.loop-part.invariant) (replicate_more i 0)
 
 pub returns : goal.returns

@@ -22,7 +22,7 @@ loop-k-preserved g c =
     let hu : k < length us = omega (arith, c.requires.whole) in
     let here : c.word_of.result ≡ minus (get_or (take p (map s us)) k 0) (blocked k F R) =
     c.word_of.ensures ∙ c.outside.ensures.value ∙ ap (minus (s u)) c.make.ensures.value
-    ∙ minus_low g.P.Part.most (s u) _ (g.met.P.Part.below u)
+    ∙ minus_low g.P.Part.MOST (s u) _ (g.met.P.Part.below u)
     ∙ ap₂ minus (sym (get_or-take p (map s us) k 0 hp ∙ read_set s us k u hu c.index-universe-k.is)) (c.blocked_words-blocked.ensures k hp) in (
       length-set ws k c.word_of.result ∙ c.loop-k.invariant.0,
       below_more _ _

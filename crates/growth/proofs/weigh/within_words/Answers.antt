@@ -16,7 +16,7 @@ returns-then-not-is_empty g c =
     let C = map s c.args.cube.now in
     let h : i < length W = omega arith in
     let t : eqb (minus (s x) (get_or W i 0)) 0 ≡ false =
-    ap (λ n. eqb n 0) (sym (c.outside.ensures.value ∙ ap (minus (s x)) c.make.ensures.value ∙ minus_low g.P.Part.most (s x) (get_or W i 0) (g.met.P.Part.below x)))
+    ap (λ n. eqb n 0) (sym (c.outside.ensures.value ∙ ap (minus (s x)) c.make.ensures.value ∙ minus_low g.P.Part.MOST (s x) (get_or W i 0) (g.met.P.Part.below x)))
     ∙ sym c.is_empty.ensures.value ∙ c.if-not-is_empty.true in
     sym (within_step W C (drop (i + 1) C) i (s x) h (left-set s c.args.cube.now i x (omega arith) c.index-cube-i.is) ∙ ap (λ b. b && covers (drop (i + 1) W) (drop (i + 1) C)) t)
     ∙ c.loop-i.invariant ∙ sym (ap (λ n. covers (take n W) C) (sym (length-map c.args.cube.now s)) ∙ covers_front W C)
@@ -30,7 +30,7 @@ loop-i-preserved g c =
     let C = map s c.args.cube.now in
     let h : i < length W = omega arith in
     let t : eqb (minus (s x) (get_or W i 0)) 0 ≡ true =
-    ap (λ n. eqb n 0) (sym (c.outside.ensures.value ∙ ap (minus (s x)) c.make.ensures.value ∙ minus_low g.P.Part.most (s x) (get_or W i 0) (g.met.P.Part.below x)))
+    ap (λ n. eqb n 0) (sym (c.outside.ensures.value ∙ ap (minus (s x)) c.make.ensures.value ∙ minus_low g.P.Part.MOST (s x) (get_or W i 0) (g.met.P.Part.below x)))
     ∙ sym c.is_empty.ensures.value ∙ c.if-not-is_empty.false in
     sym (within_step W C (drop (i + 1) C) i (s x) h (left-set s c.args.cube.now i x (omega arith) c.index-cube-i.is) ∙ ap (λ b. b && covers (drop (i + 1) W) (drop (i + 1) C)) t)
     ∙ c.loop-i.invariant

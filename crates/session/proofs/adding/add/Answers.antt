@@ -7,7 +7,7 @@ returns-in-Err g c =
     let s = g.P.Part.set in
     let t = c.args.t in
     let z : t.p - 0 ≡ t.p = omega arith in
-    let verdict : ℕ → Verdict = λ k. add_verdict t.p t.rows c.args.kind (made_row g.P.Part.most (take k c.args.words.now)) (map s c.args.universe.now) (map s c.args.table.now) c.args.rows.now in
+    let verdict : ℕ → Verdict = λ k. add_verdict t.p t.rows c.args.kind (made_row g.P.Part.MOST (take k c.args.words.now)) (map s c.args.universe.now) (map s c.args.table.now) c.args.rows.now in
     let v : verdict t.p ≡ Err c.in-Err.cause = ap verdict (sym z) ∙ sym c.in-Err.ensures.answer in
     record {
       answer = rw v;

@@ -109,7 +109,7 @@ returns g c =
       off_stays = c.off_list-list.ensures.off_stays;
       solution_stays = copied_stays p n c.copy_on_rows-count.result c.args.table.now rs c.copy_on_rows-count.new.solution c.args.solution.now room.1 on c.copy_on_rows-count.ensures.cubes;
       work_stays = c.off_list-list.ensures.work_stays;
-      exact = exactly-at g.P.Part.most p n us ts rs (map s off) (map s c.args.solution.now) (omega (arith, length-map c.args.universe.now s, room.0)) (omega (arith, length-map c.args.table.now s, room.1))
+      exact = exactly-at g.P.Part.MOST p n us ts rs (map s off) (map s c.args.solution.now) (omega (arith, length-map c.args.universe.now s, room.0)) (omega (arith, length-map c.args.table.now s, room.1))
           c.off_list-list.result.count c.copy_on_rows-count.result (map s c.off_list-list.new.off) (map s c.copy_on_rows-count.new.solution)
           count on (offs ∙ ap (λ C. overlay (flat C) (map s off)) (take_all most L few)) solution;
     }

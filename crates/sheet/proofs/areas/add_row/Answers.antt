@@ -8,7 +8,7 @@ use Rattle.sheet.proofs.areas.add_row.Goals as goal
 pub returns-in-Ok : goal.returns-in-Ok
 returns-in-Ok g c =
     let set = g.P.Part.set in
-    let most = g.P.Part.most in
+    let most = g.P.Part.MOST in
     let d = drafted c.args.d in
     let a = c.args.areas.now in
     let m = memory set a in

@@ -9,7 +9,7 @@ pub returns : goal.returns
 returns g c =
     let set = g.P.Part.set in
     let a = c.args.areas.now in
-    let b = begun g.P.Part.most c.args.p c.args.sizes.now (memory set a).universe in
+    let b = begun g.P.Part.MOST c.args.p c.args.sizes.now (memory set a).universe in
     let answer : Ok (filling c.in_ok-table.table) ≡ b.answer = search rules in
     let sets : map set c.begin.new.universe ≡ b.universe = search rules in
     table-begun set a c.args.sizes.now c.args.p c.in_hand-row.result c.begin.new.universe b (filling c.in_ok-table.table)

@@ -8,7 +8,7 @@ pub returns : goal.returns
 returns g c =
     let none = c.make-none.result in
     let p = c.args.p in
-    let void = c.make-none.ensures.value ∙ zero-mod (2 ^ g.P.Part.most) in
+    let void = c.make-none.ensures.value ∙ zero-mod (2 ^ g.P.Part.MOST) in
     let cubes : 1 + c.saturating_sub.result * 64 ≡ work_cubes p = omega (arith, c.saturating_sub.ensures) in
     fresh_is g.P.Part.set none void c.blank-blank.result c.blank-blank.ensures p (1 + c.saturating_sub.result * 64) cubes
     (record {

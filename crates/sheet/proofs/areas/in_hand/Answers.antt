@@ -1,6 +1,6 @@
 use Rattle.std.proofs.Common.{ℕ, List, [], ◌∷◌, ◌++◌, map, sym, ap, ◌∙◌, ap₂, arith}
 use Rattle.std.proofs.lemmas.List.{take_more_set, map_more, take_all, length-set}
-use Rattle.table.specs.Filling.{whole}
+use Rattle.parts.specs.Sets.{whole}
 use Rattle.sheet.proofs.areas.in_hand.Goals as goal
 
 pub loop-k-preserved : goal.loop-k-preserved
@@ -8,9 +8,9 @@ loop-k-preserved c =
     let row = c.loop-k.row in
     let k = c.loop-k.k in
     let sizes = c.args.sizes.now in
-    let w = c.full_word.result in (
+    let w = c.whole.result in (
       take_more_set row k w (omega arith)
-          ∙ ap₂ (λ (r : List ℕ) (x : ℕ). r ++ x ∷ []) c.loop-k.invariant.0 c.full_word.ensures
+          ∙ ap₂ (λ (r : List ℕ) (x : ℕ). r ++ x ∷ []) c.loop-k.invariant.0 c.whole.ensures
           ∙ sym (map_more whole sizes k 0 (omega arith)),
       length-set row k w ∙ c.loop-k.invariant.1,
     )

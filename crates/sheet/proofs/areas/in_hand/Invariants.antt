@@ -1,5 +1,5 @@
 use Rattle.std.proofs.Common.{◌≡◌, map, length, take}
-use Rattle.table.specs.Filling.{whole}
+use Rattle.parts.specs.Sets.{whole}
 use Rattle.sheet.proofs.areas.in_hand.Given as goal
 
 abbrev pub invariant-loop-k : goal.invariant-loop-k

@@ -6,7 +6,7 @@ use Rattle.sheet.proofs.filling.run.Goals as goal
 
 pub loop-stage-preserved : goal.loop-stage-preserved
 loop-stage-preserved g c =
-    let most = g.P.Part.most in
+    let most = g.P.Part.MOST in
     let command = c.in-Ok-Some.command in
     let bytes = c.loop-stage.bytes.now in
     let rest = c.in-Ok-Some.rest.now in

@@ -6,8 +6,8 @@ use Rattle.sheet.proofs.filling.run.Given as goal
 abbrev pub invariant-loop-stage : goal.invariant-loop-stage
 invariant-loop-stage g l =
     (length l.bytes ≤ l.end)
-    × (string_bytes l.out ++ lines_from l.end (state g.P.Part.most l.stage (memory g.P.Part.set l.areas)) l.bytes
-    ≡ lines_from l.end (state g.P.Part.most l.initial.stage (memory g.P.Part.set l.initial.areas)) l.initial.bytes)
+    × (string_bytes l.out ++ lines_from l.end (state g.P.Part.MOST l.stage (memory g.P.Part.set l.areas)) l.bytes
+    ≡ lines_from l.end (state g.P.Part.MOST l.initial.stage (memory g.P.Part.set l.initial.areas)) l.initial.bytes)
 
 abbrev pub decreases-loop-stage : goal.decreases-loop-stage
 decreases-loop-stage g l = length l.bytes

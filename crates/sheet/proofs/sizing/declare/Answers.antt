@@ -6,8 +6,8 @@ use Rattle.sheet.proofs.sizing.declare.Goals as goal
 pub returns : goal.returns
 returns g c =
     let few : leb 16 c.args.p ≡ false = lt-leb 16 c.args.p (omega arith) in
-    let fits : (ltb c.args.size 1 || ltb g.P.Part.most c.args.size) ≡ false =
-    or_from (ltb c.args.size 1) (ltb g.P.Part.most c.args.size) (le-ltb c.args.size 1 (omega arith)) (le-ltb g.P.Part.most c.args.size (omega arith)) in
+    let fits : (ltb c.args.size 1 || ltb g.P.Part.MOST c.args.size) ≡ false =
+    or_from (ltb c.args.size 1) (ltb g.P.Part.MOST c.args.size) (le-ltb c.args.size 1 (omega arith)) (le-ltb g.P.Part.MOST c.args.size (omega arith)) in
     record {
       step = rw (few, fits);
       few = omega arith;

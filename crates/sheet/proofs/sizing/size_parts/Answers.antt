@@ -8,7 +8,7 @@ use Rattle.sheet.proofs.sizing.size_parts.Goals as goal
 
 pub returns-in-Ok-Table : goal.returns-in-Ok-Table
 returns-in-Ok-Table g c =
-    let most = g.P.Part.most in
+    let most = g.P.Part.MOST in
     let command = c.in-Ok-Some.command in
     let bytes = c.loop-command.bytes.now in
     let read : Ok (Some command) ≡ reading bytes = search rules in
@@ -18,7 +18,7 @@ returns-in-Ok-Table g c =
 
 pub loop-command-preserved : goal.loop-command-preserved
 loop-command-preserved g c =
-    let most = g.P.Part.most in
+    let most = g.P.Part.MOST in
     let command = c.in-Ok-Some.command in
     let bytes = c.loop-command.bytes.now in
     let rest = c.in-Ok-Some.rest.now in

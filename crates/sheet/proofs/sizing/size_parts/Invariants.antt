@@ -9,8 +9,8 @@ invariant-loop-command g l =
     (length l.bytes ≤ l.end)
     × (l.p ≤ 16)
     × Small l.sizes
-    × (lines_from l.end (sizing g.P.Part.most l.sizes l.p) l.bytes
-    ≡ lines_from l.end (sizing g.P.Part.most l.initial.sizes l.initial.p) l.initial.bytes)
+    × (lines_from l.end (sizing g.P.Part.MOST l.sizes l.p) l.bytes
+    ≡ lines_from l.end (sizing g.P.Part.MOST l.initial.sizes l.initial.p) l.initial.bytes)
 
 abbrev pub decreases-loop-command : goal.decreases-loop-command
 decreases-loop-command g l = length l.bytes

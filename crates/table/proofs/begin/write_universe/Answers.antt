@@ -6,13 +6,13 @@ use Rattle.table.proofs.begin.write_universe.Goals as goal
 
 pub whole-requires : goal.whole-requires
 whole-requires g c =
-    shape_range g.P.Part.most c.args.p c.loop-k.k c.args.sizes.now (omega arith) c.requires.shape c.loop-k-test.true
+    shape_range g.P.Part.MOST c.args.p c.loop-k.k c.args.sizes.now (omega arith) c.requires.shape c.loop-k-test.true
 
 pub loop-k-preserved : goal.loop-k-preserved
 loop-k-preserved g c =
     let s = g.P.Part.set in
     let k = c.loop-k.k in
-    let few = shape_few g.P.Part.most c.args.p c.args.sizes.now c.requires.shape in
+    let few = shape_few g.P.Part.MOST c.args.p c.args.sizes.now c.requires.shape in
     let l : k < length c.args.sizes.now = omega arith in
     let v : k < length (map s c.args.universe.now) = rw length-map (omega arith) in (
       map-set s c.loop-k.universe k c.whole.result
@@ -26,7 +26,7 @@ returns g c =
     let p = c.args.p in
     let V = map s c.args.universe.now in
     let e : c.loop-k.k ≡ p = omega arith in
-    let few = shape_few g.P.Part.most p c.args.sizes.now c.requires.shape in
+    let few = shape_few g.P.Part.MOST p c.args.sizes.now c.requires.shape in
     let n : length (universe_of p c.args.sizes.now) ≡ p = simp (length-map, length-take) (omega arith) in
     record {
       sets = c.loop-k.invariant.0 ∙ ap (λ k. universe_of k c.args.sizes.now ++ drop k V) e ∙ ap (λ k. universe_of p c.args.sizes.now ++ drop k V) (sym n);

@@ -39,6 +39,6 @@ returns g c =
     sym (then_ok _ _ (ap (λ k. area_verdict 1 k p) n ∙ sym c.in_ok-check_area.ensures)
     ∙ then_ok _ _ (ap (λ k. area_verdict 2 (area_length p k (length c.args.cards.now)) c.args.rows) m ∙ ap (λ k. area_verdict 2 k c.args.rows) (sym c.area_length.ensures)
     ∙ sym c.in_ok-check_area-2.ensures)
-    ∙ ap (λ U. row_verdict p c.args.rows c.args.kind (made_row g.P.Part.most c.args.words.now) U (map s c.args.table.now) c.args.cards.now)
+    ∙ ap (λ U. row_verdict p c.args.rows c.args.kind (made_row g.P.Part.MOST c.args.words.now) U (map s c.args.table.now) c.args.cards.now)
     (sym (first_cube p (map s c.args.universe.now)) ∙ sym (map-cube_at s p 0 c.args.universe.now) ∙ ap (map s) (sym c.cube_at.ensures))
     ∙ sym c.check_row.ensures)

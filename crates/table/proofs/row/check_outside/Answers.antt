@@ -10,7 +10,7 @@ use Rattle.table.proofs.row.check_outside.Goals as goal
 pub returns-then-not-is_empty : goal.returns-then-not-is_empty
 returns-then-not-is_empty g c =
     let s = g.P.Part.set in
-    let f : ℕ → ℕ = λ w. w % 2 ^ g.P.Part.most in
+    let f : ℕ → ℕ = λ w. w % 2 ^ g.P.Part.MOST in
     let k = c.loop-part.part in
     let m : s c.outside-values.result ≡ minus (f (get_or c.args.words.now k 0)) (s c.index-universe-part.result) = c.outside-values.ensures.value ∙ ap (λ n. minus n (s c.index-universe-part.result)) c.make.ensures.value in
     let t : eqb (minus (f (get_or c.args.words.now k 0)) (s c.index-universe-part.result)) 0 ≡ false =
@@ -22,7 +22,7 @@ returns-then-not-is_empty g c =
 pub loop-part-preserved : goal.loop-part-preserved
 loop-part-preserved g c =
     let s = g.P.Part.set in
-    let f : ℕ → ℕ = λ w. w % 2 ^ g.P.Part.most in
+    let f : ℕ → ℕ = λ w. w % 2 ^ g.P.Part.MOST in
     let k = c.loop-part.part in
     let t : eqb (minus (f (get_or c.args.words.now k 0)) (s c.index-universe-part.result)) 0 ≡ true =
     ap (λ n. eqb n 0) (sym (c.outside-values.ensures.value ∙ ap (λ n. minus n (s c.index-universe-part.result)) c.make.ensures.value)) ∙ sym c.is_empty.ensures.value ∙ c.if-not-is_empty.false in
@@ -33,7 +33,7 @@ pub returns : goal.returns
 returns g c =
     let s = g.P.Part.set in
     let k = c.loop-part.part in
-    let f : ℕ → ℕ = λ w. w % 2 ^ g.P.Part.most in
+    let f : ℕ → ℕ = λ w. w % 2 ^ g.P.Part.MOST in
     let A = map f c.args.words.now in
     let U = map s c.args.universe.now in
     let a = length-map c.args.words.now f in

@@ -5,12 +5,12 @@ use Rattle.std.proofs.lemmas.List.Edits.{paste_none, paste_more}
 use Rattle.table.proofs.row.write_parts.Goals as goal
 
 pub loop-k-init : goal.loop-k-init
-loop-k-init g c = (paste_none (map g.P.Part.set c.args.table.now) c.args.from (map (λ w. w % 2 ^ g.P.Part.most) c.args.words.now), refl, refl)
+loop-k-init g c = (paste_none (map g.P.Part.set c.args.table.now) c.args.from (map (λ w. w % 2 ^ g.P.Part.MOST) c.args.words.now), refl, refl)
 
 pub loop-k-preserved : goal.loop-k-preserved
 loop-k-preserved g c =
     let s = g.P.Part.set in
-    let f : ℕ → ℕ = λ w. w % 2 ^ g.P.Part.most in
+    let f : ℕ → ℕ = λ w. w % 2 ^ g.P.Part.MOST in
     let k = c.loop-k.k in
     let at = c.args.from in
     let ws = c.args.words.now in

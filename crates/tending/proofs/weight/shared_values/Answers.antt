@@ -16,7 +16,7 @@ loop-i-preserved g c =
     let hb : i < length B = omega arith in
     let one : c.count.result ≡ ones (bit_and (s x) (s y)) = c.count.ensures.value ∙ ap ones c.common.ensures.value in
     let step = shared_step s A B i x y ha hb c.index-a-i.is c.index-b-i.is in
-    let few : c.count.result ≤ 64 = omega (arith, c.count.ensures.values, few-members (s c.common.result) g.P.Part.most, g.met.P.Part.range.1) in
+    let few : c.count.result ≤ 64 = omega (arith, c.count.ensures.values, few-members (s c.common.result) g.P.Part.MOST, g.met.P.Part.range.1) in
     (omega (arith, one, step, c.loop-i.invariant.0), omega (arith, few, c.loop-i.invariant.1))
 
 pub returns : goal.returns

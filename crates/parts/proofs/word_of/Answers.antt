@@ -1,9 +1,9 @@
 use Rattle.std.proofs.Common.{◌≡◌, ◌%◌, ◌^◌, ◌<◌, sym, ap, ◌∙◌, mod-eq_of_lt, arith}
 use lib.Bits.{bit_or}
 use Rattle.std.proofs.lemmas.Nat.{one_shl}
-use Rattle.table.proofs.Verdicts.{gather_more, gather_same}
-use Rattle.growth.proofs.apart.word_of.Goals as goal
-use Rattle.growth.proofs.apart.word_of.Goals.{then-contains, else-contains}
+use Rattle.parts.proofs.Bits.{gather_more, gather_same}
+use Rattle.parts.proofs.word_of.Goals as goal
+use Rattle.parts.proofs.word_of.Goals.{then-contains, else-contains}
 
 pub loop-v-preserved : goal.loop-v-preserved
 loop-v-preserved g c =
@@ -20,5 +20,5 @@ loop-v-preserved g c =
 pub returns : goal.returns
 returns g c =
     let s = g.P.Part.set c.args.values in
-    let e : c.loop-v.v ≡ g.P.Part.most = omega arith in
+    let e : c.loop-v.v ≡ g.P.Part.MOST = omega arith in
     c.loop-v.invariant ∙ ap (λ k. s % 2 ^ k) e ∙ mod-eq_of_lt (g.met.P.Part.below c.args.values)
