@@ -1,5 +1,5 @@
 //! Lists of cubes: an area that is read cube by cube.
-ghost use Rattle.std.specs.Prelude.{◌≡◌, ◌*◌, ◌<◌, ◌≤◌, length};
+ghost use Rattle.std.specs.Prelude.{◌≡◌, ◌-◌, ◌*◌, ◌^◌, ◌<◌, ◌≤◌, length, drop};
 ghost use Rattle.std.specs.Iterator.{YieldsFirstRef, item_count};
 ghost use Rattle.cubes.specs.Areas.{cubes, cube_at};
 
@@ -48,9 +48,24 @@ impl<'a, P: Part> Cubes<'a, P> {
         cube_at(self.parts, i, self.p)
     }
 
+    /// The cubes from place `i` on.
+    pub fn after(&self, i: usize) -> Cubes<'_, P>
+        requires { i ≤ self.now.n }
+        ensures parts { result.parts.now ≡ drop (i * self.now.p) self.now.parts.now }
+        ensures p { result.p ≡ self.now.p }
+        ensures n { result.n ≡ self.now.n - i }
+    {
+        Cubes {
+            parts: &self.parts[i * self.p..],
+            p: self.p,
+            n: self.n - i,
+        }
+    }
+
     /// The cubes, one after another.
     pub fn iter(&self) -> CubesIter<'_, P>
-        ensures { cubes result.p result.n result.rest.now ≡ cubes self.now.p self.now.n self.now.parts.now }
+        ensures rest { cubes result.p result.n result.rest.now ≡ cubes self.now.p self.now.n self.now.parts.now }
+        ensures bound { length (cubes result.p result.n result.rest.now) < 2 ^ 64 }
     {
         CubesIter {
             rest: self.parts,
