@@ -1,5 +1,5 @@
 -- Areas of cubes: what a write to one cube leaves, and the cubes one after another.
-use Rattle.std.proofs.Common.{◌≡◌, ℕ, zero, suc, ◌+◌, ◌*◌, ◌<◌, ◌≤◌, List, [], ◌∷◌, ◌++◌, map, length, get_or, take, drop, sym, refl, ap, ◌∙◌, mul-le-mul_right, add-mul, one-mul, add-one, arith}
+use Rattle.std.proofs.Common.{◌≡◌, ℕ, zero, suc, ◌+◌, ◌-◌, ◌*◌, ◌<◌, ◌≤◌, List, [], ◌∷◌, ◌++◌, map, length, get_or, take, drop, sym, refl, ap, ◌∙◌, mul-le-mul_right, add-mul, one-mul, add-one, arith}
 use borrow.Rule.Slice.PartMut.{put_mid}
 use Rattle.std.specs.List.{AllByRecursion}
 use Rattle.std.proofs.lemmas.List.{append_assoc, map-append, take-map, drop-map, take_at, drop_at, drop-take, drop-drop, length-take, length-drop, length-append, take-append-drop, take-take}
@@ -69,6 +69,26 @@ put_part s p i n xs ys q e f =
 pub length-cubes : {X : Type 0} (p n : ℕ) (xs : List X) → length (cubes p n xs) ≡ n
 length-cubes p zero xs = refl
 length-cubes p (suc n) xs = ap suc (length-cubes p n (drop p xs))
+
+pub map-cubes : {X : Type 0} (s : X → ℕ) (p n : ℕ) (xs : List X) → map (map s) (cubes p n xs) ≡ cubes p n (map s xs)
+map-cubes s p zero xs = refl
+map-cubes s p (suc n) xs =
+    ap (λ c. c ∷ map (map s) (cubes p n (drop p xs))) (sym (take-map s p xs))
+    ∙ ap (λ C. take p (map s xs) ∷ C) (map-cubes s p n (drop p xs) ∙ ap (cubes p n) (sym (drop-map s p xs)))
+
+-- the cubes from place i on
+pub drop-cubes : {X : Type 0} (p n i : ℕ) (xs : List X) → i ≤ n → drop i (cubes p n xs) ≡ cubes p (n - i) (drop (i * p) xs)
+drop-cubes p n zero xs h =
+    let e : 0 * p ≡ 0 = omega arith in
+    let f : n - 0 ≡ n = omega arith in
+    rw (e, f)
+drop-cubes p zero (suc i) xs h = absurd (omega arith)
+drop-cubes p (suc n) (suc i) xs h =
+    let e : suc n - suc i ≡ n - i = omega arith in
+    drop-cubes p n i (drop p xs) (omega arith) ∙ rw e (ap (cubes p (n - i)) (drop-drop (i * p) p xs ∙ ap (λ m. drop m xs) (sym (suc_place i p))))
+
+pub map-drop-cubes : {X : Type 0} (s : X → ℕ) (p n i : ℕ) (xs : List X) → map (map s) (drop i (cubes p n xs)) ≡ drop i (cubes p n (map s xs))
+map-drop-cubes s p n i xs = sym (drop-map (map s) i (cubes p n xs)) ∙ ap (drop i) (map-cubes s p n xs)
 
 pub wide_cubes : {X : Type 0} (p n : ℕ) (xs : List X) → n * p ≤ length xs → AllByRecursion (λ (c : List X). length c ≡ p) (cubes p n xs)
 wide_cubes p zero xs h = tt

@@ -13,6 +13,7 @@ pub struct Cubes<'a, P> {
     p: usize,
     n: usize,
     ghost fits: { n * p ≤ length parts.now },
+    ghost counted: { n < 2 ^ 64 },
 }
 
 impl<'a, P: Part> Cubes<'a, P> {
@@ -51,7 +52,7 @@ impl<'a, P: Part> Cubes<'a, P> {
     /// The cubes from place `i` on.
     pub fn after(&self, i: usize) -> Cubes<'_, P>
         requires { i ≤ self.now.n }
-        ensures parts { result.parts.now ≡ drop (i * self.now.p) self.now.parts.now }
+        ensures cubes { cubes result.p result.n result.parts.now ≡ drop i (cubes self.now.p self.now.n self.now.parts.now) }
         ensures p { result.p ≡ self.now.p }
         ensures n { result.n ≡ self.now.n - i }
     {

@@ -1,10 +1,8 @@
 -- What the rows of a list do to a piece, and what is left of it then.
-use Rattle.std.proofs.Common.{◌≡◌, ℕ, suc, ◌+◌, ◌-◌, ◌<◌, ◌≤◌, Bool, true, false, cond, ◌⊎◌, List, [], ◌∷◌, ◌++◌, map, length, get_or, drop, sym, refl, ap, ◌∙◌, inl, inr, ⊎_elim, add-one, arith}
+use Rattle.std.proofs.Common.{◌≡◌, ℕ, suc, ◌+◌, ◌-◌, ◌<◌, ◌≤◌, Bool, true, false, cond, ◌⊎◌, [], ◌∷◌, ◌++◌, length, get_or, drop, sym, refl, ap, ◌∙◌, inl, inr, ⊎_elim, arith}
 use Rattle.std.specs.List.{flat_map}
-use Rattle.std.proofs.lemmas.List.{append-nil, append_assoc, drop_more, drop_all, drop-drop, get_or-drop, length-drop}
-use Rattle.cubes.specs.Areas.{cubes, cube_at}
+use Rattle.std.proofs.lemmas.List.{append-nil, append_assoc, drop-drop, get_or-drop, length-drop}
 use Rattle.cubes.specs.Cubes.{Cube, Cover, Wide, meets, covers, pieces, rest}
-use Rattle.cubes.proofs.Areas.{length-cubes, get_or-cubes, map-cube_at}
 use Rattle.cubes.proofs.Inside.{swallowed}
 use Rattle.walk.specs.declared.rest.Look.{Look}
 use Rattle.walk.specs.declared.rest.Look.TheVariants.{Gone, Cut, Free}
@@ -35,49 +33,6 @@ onto-after (Cut k) j Gone h = refl
 onto-after (Cut k) j (Cut m) h = refl
 onto-after (Cut k) j Free h = refl
 onto-after Free j x h = absurd (h refl)
-
-module _ (p n j : ℕ) (ls : List ℕ) (c : Cube) (h : j < n) where
-  -- the rows from j on are row j and those after it
-  rows_more : drop j (cubes p n ls) ≡ cube_at p j ls ∷ drop (j + 1) (cubes p n ls)
-  rows_more =
-      let l : j < length (cubes p n ls) = rw (length-cubes p n ls) h in
-      drop_more (cubes p n ls) j [] l ∙ ap (λ x. x ∷ drop (j + 1) (cubes p n ls)) (get_or-cubes p n j ls h)
-
-  row_step : look_of c j (drop j (cubes p n ls)) ≡ cond (meets c (cube_at p j ls)) (cond (covers (cube_at p j ls) c) Gone (after j (look_of c (j + 1) (drop (j + 1) (cubes p n ls))))) (look_of c (j + 1) (drop (j + 1) (cubes p n ls)))
-  row_step = rw (rows_more, add-one)
-
-  row-passed : meets c (cube_at p j ls) ≡ false → look_of c j (drop j (cubes p n ls)) ≡ look_of c (j + 1) (drop (j + 1) (cubes p n ls))
-  row-passed m = row_step ∙ rw m
-
-  row_gone : meets c (cube_at p j ls) ≡ true → covers (cube_at p j ls) c ≡ true → look_of c j (drop j (cubes p n ls)) ≡ Gone
-  row_gone m k = row_step ∙ rw (m, k)
-
-  row_met : meets c (cube_at p j ls) ≡ true → covers (cube_at p j ls) c ≡ false → look_of c j (drop j (cubes p n ls)) ≡ after j (look_of c (j + 1) (drop (j + 1) (cubes p n ls)))
-  row_met m k = row_step ∙ rw (m, k)
-
-  -- a turn: where what was found and the rows from j on come to o
-  module _ (f o : Look) (inv : onto f (look_of c j (drop j (cubes p n ls))) ≡ o) where
-    pub found_gone : meets c (cube_at p j ls) ≡ true → covers (cube_at p j ls) c ≡ true → Gone ≡ o
-    found_gone m k = sym (ap (onto f) (row_gone m k) ∙ onto_gone f) ∙ inv
-
-    pub found_first : (f' : Look) → f ≡ Free → f' ≡ Cut j → meets c (cube_at p j ls) ≡ true → covers (cube_at p j ls) c ≡ false → onto f' (look_of c (j + 1) (drop (j + 1) (cubes p n ls))) ≡ o
-    found_first f' e e' m k = ap (λ y. onto y (look_of c (j + 1) (drop (j + 1) (cubes p n ls)))) e' ∙ sym (row_met m k) ∙ sym (ap (λ y. onto y (look_of c j (drop j (cubes p n ls)))) e) ∙ inv
-
-    pub found_later : (f' : Look) → (f ≡ Free → ⊥) → f' ≡ f → meets c (cube_at p j ls) ≡ true → covers (cube_at p j ls) c ≡ false → onto f' (look_of c (j + 1) (drop (j + 1) (cubes p n ls))) ≡ o
-    found_later f' e e' m k = ap (λ y. onto y (look_of c (j + 1) (drop (j + 1) (cubes p n ls)))) e' ∙ sym (ap (onto f) (row_met m k) ∙ onto-after f j (look_of c (j + 1) (drop (j + 1) (cubes p n ls))) e) ∙ inv
-
-    pub found_none : (f' : Look) → f' ≡ f → meets c (cube_at p j ls) ≡ false → onto f' (look_of c (j + 1) (drop (j + 1) (cubes p n ls))) ≡ o
-    found_none f' e' m = ap (λ y. onto y (look_of c (j + 1) (drop (j + 1) (cubes p n ls)))) e' ∙ sym (ap (onto f) (row-passed m)) ∙ inv
-
--- past the last row
-pub found_all : (p n j : ℕ) (ls : List ℕ) (c : Cube) → n ≤ j → (f o : Look) → onto f (look_of c j (drop j (cubes p n ls))) ≡ o → f ≡ o
-found_all p n j ls c h f o inv =
-    let none : look_of c j (drop j (cubes p n ls)) ≡ Free = rw (drop_all j (cubes p n ls) (rw (length-cubes p n ls) h)) in
-    sym (ap (onto f) none ∙ onto_free f) ∙ inv
-
--- a test of the row that was read
-pub row_test : {X : Type 0} (s : X → ℕ) (p j : ℕ) (list row : List X) (test : Cube → Bool) (r b : Bool) → row ≡ cube_at p j list → r ≡ test (map s row) → r ≡ b → test (cube_at p j (map s list)) ≡ b
-row_test s p j list row test r b e f h = ap test (sym (ap (map s) e ∙ map-cube_at s p j list)) ∙ sym f ∙ h
 
 -- ---- what a row said, by what all say
 

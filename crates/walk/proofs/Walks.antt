@@ -1,5 +1,5 @@
 -- The walk: what a stack will come to, where its pieces stand, and how much work it is.
-use Rattle.std.proofs.Common.{◌≡◌, ℕ, suc, ◌+◌, ◌-◌, ◌*◌, ◌^◌, ◌<◌, ◌≤◌, min, true, false, leb, List, [], ◌∷◌, ◌++◌, map, length, get_or, take, drop, set, sym, refl, ap, ◌∙◌, subst, mul-le-mul_right, suc-mul, mul_comm, add-mul, mul-le-mul_left, one-mul, pow-suc, mul-add, arith}
+use Rattle.std.proofs.Common.{◌≡◌, ℕ, suc, ◌+◌, ◌-◌, ◌*◌, ◌^◌, ◌<◌, ◌≤◌, min, true, cond, leb, Ok, Err, List, [], ◌∷◌, ◌++◌, map, length, get_or, take, drop, set, sym, refl, ap, ◌∙◌, subst, mul-le-mul_right, suc-mul, mul_comm, add-mul, mul-le-mul_left, one-mul, pow-suc, mul-add, arith}
 use native.Mathlib.Nat.{one-le-pow, pow-le-pow_right}
 use Rattle.std.specs.List.{flat_map}
 use Rattle.std.proofs.lemmas.List.{append-nil, append_assoc, length-append, length-map, drop-map, drop-drop, take_all, take_at, get_or-set_same}
@@ -11,6 +11,8 @@ use Rattle.cubes.proofs.Areas.{next_place, place_below, length-cube_at, length-c
 use Rattle.walk.specs.declared.rest.Look.{Look}
 use Rattle.walk.specs.declared.rest.Look.TheVariants.{Gone, Cut, Free}
 use Rattle.walk.specs.Look.{look_of}
+use Rattle.walk.specs.declared.stack.Stack.{Stack}
+use Rattle.walk.specs.Written.{count_if_whole}
 use Rattle.walk.specs.Stack.{Task, stack_of, numbered, pending, weight, Placed}
 use Rattle.walk.proofs.Looks.{look_free, look_gone, cut-from, cut-under, cut_left}
 use Rattle.walk.proofs.Pieces.{length-pieces}
@@ -70,6 +72,20 @@ weight_out w n i c S = omega (arith, one-le-pow (n - i) (w + 1) (omega arith))
 
 -- ---- the walk
 
+-- the piece that was read, and the look at it
+pub record Seen {X : Type 0} (s : X → ℕ) (p : ℕ) (D : Cover) (work : List X) (ns : List ℕ) (depth : ℕ) (cube : List X) (r : Look) : Type 0 where
+  pub some : 0 < depth
+  pub read : cube ≡ cube_at p (depth - 1) work
+  pub look : r ≡ look_of (map s cube) (get_or ns (depth - 1) 0) (drop (get_or ns (depth - 1) 0) D)
+
+pub seen : {X : Type 0} (s : X → ℕ) (p : ℕ) (D : Cover) (k : Stack X) (cube : List X) (next : ℕ) (r : Look) → k.p ≡ p
+    → (0 < k.depth) × (cube ≡ cube_at k.p (k.depth - 1) k.work.now) × (next ≡ get_or k.numbers.now (k.depth - 1) 0) → r ≡ look_of (map s cube) next (drop next D) → Seen s p D k.work.now k.numbers.now k.depth cube r
+seen s p D k cube next r e t l = record {
+  some = t.0;
+  read = t.1 ∙ ap (λ m. cube_at m (k.depth - 1) k.work.now) e;
+  look = l ∙ ap (λ m. look_of (map s cube) m (drop m D)) t.2;
+}
+
 room_cubes : (p n d q : ℕ) → d + q ≤ 1 + (p - 1) * n → d * p + q * p ≤ (1 + (p - 1) * n) * p
 room_cubes p n d q h = omega (arith, add-mul d q p, mul-le-mul_right {m = d + q} {n = 1 + (p - 1) * n} p h)
 
@@ -121,6 +137,12 @@ module _ {X : Type 0} {s : X → ℕ} {p n most : ℕ} {list start before work :
       let past : drop (count * p) (map s out) ≡ drop (count * p) (map s before) = drop-map s (count * p) out ∙ ap (map s) w.stays ∙ sym (drop-map s (count * p) before) in
       overlay-cubes p count (map s out) (map s before) long past ∙ ap (λ C. overlay (flat C) (map s before)) (sym e)
 
+  pub depth_most : depth ≤ 1 + (p - 1) * n
+  depth_most = omega (arith, placed-length (p - 1) n stack w.placed, length_stack p depth (map s work) ns)
+
+  pub depth-fits : depth * p ≤ length work
+  depth-fits = omega (arith, w.fits, mul-le-mul_right {m = depth} {n = 1 + (p - 1) * n} p depth_most)
+
   -- ---- the stack is empty
 
   module _ (none : depth ≡ 0) where
@@ -130,11 +152,13 @@ module _ {X : Type 0} {s : X → ℕ} {p n most : ℕ} {list start before work :
     end_length : length total ≡ count
     end_length = omega (arith, total-length, ap length nothing)
 
-    pub end_count : count ≡ min most (length total)
-    end_count = omega (arith, end_length, w.count_most)
+    pub end_answer : Ok count ≡ count_if_whole most total
+    end_answer =
+        let fit : leb (length total) most ≡ true = le-leb (length total) most (omega (arith, end_length, w.count_most)) in
+        ap Ok (sym end_length) ∙ sym (ap (λ t. cond t (Ok (length total)) (Err (record {}))) fit)
 
-    pub end_whole : true ≡ leb (length total) most
-    end_whole = sym (le-leb (length total) most (omega (arith, end_length, w.count_most)))
+    pub end_stays : drop (min most (length total) * p) out ≡ drop (min most (length total) * p) before
+    end_stays = let e : min most (length total) ≡ count = omega (arith, end_length, w.count_most) in rw e w.stays
 
     pub end_written : map s out ≡ overlay (flat (take most total)) (map s before)
     end_written =
@@ -160,8 +184,8 @@ module _ {X : Type 0} {s : X → ℕ} {p n most : ℕ} {list start before work :
     top_placed : Placed (p - 1) n ((number, top) ∷ under)
     top_placed = subst (Placed (p - 1) n) stack_is w.placed
 
-    pub depth_most : depth ≤ 1 + (p - 1) * n
-    depth_most = omega (arith, placed-length (p - 1) n stack w.placed, length_stack p depth (map s work) ns)
+    pub number_most : number ≤ n
+    number_most = top_placed.1
 
     pub top-fits : (depth - 1) * p + p ≤ length work
     top-fits = omega (arith, w.fits, one-mul p, room_cubes p n (depth - 1) 1 (omega (arith, depth_most)))
@@ -204,11 +228,11 @@ module _ {X : Type 0} {s : X → ℕ} {p n most : ℕ} {list start before work :
         full-length : most < length total
         full-length = omega (arith, total-length, ap length (free_pending e))
 
-        pub full-count : count ≡ min most (length total)
-        full-count = omega (arith, full-length)
+        pub full-answer : Err (record {}) ≡ count_if_whole most total
+        full-answer = sym (ap (λ t. cond t (Ok (length total)) (Err (record {}))) (lt-leb (length total) most full-length))
 
-        pub full-whole : false ≡ leb (length total) most
-        full-whole = sym (lt-leb (length total) most full-length)
+        pub full-stays : drop (min most (length total) * p) out ≡ drop (min most (length total) * p) before
+        full-stays = let e : min most (length total) ≡ count = omega (arith, full-length) in rw e w.stays
 
         pub full-written : map s out ≡ overlay (flat (take most total)) (map s before)
         full-written = out_is (ap (take most) (sym w.all) ∙ take_at done (pending rows stack) most (length-cubes p count (map s out) ∙ full))

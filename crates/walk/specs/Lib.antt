@@ -1,2 +1,4 @@
 pub mod Look
 pub mod Stack
+pub mod Tasks
+pub mod Written

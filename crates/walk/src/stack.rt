@@ -1,20 +1,21 @@
 //! A stack of cubes in an area, and numbers beside them.
-ghost use Rattle.std.specs.Prelude.{◌≡◌, ◌+◌, ◌*◌, ◌<◌, ◌≤◌, ◌++◌, map, length, set as edited};
-ghost use Rattle.cubes.specs.Areas.{cube_at, put_at};
+ghost use Rattle.std.specs.Prelude.{◌≡◌, ◌+◌, ◌-◌, ◌*◌, ◌<◌, ◌≤◌, ◌++◌, map, length, IfSome, None, slice_index};
+ghost use Rattle.cubes.specs.Areas.{cube_at};
 ghost use Rattle.cubes.specs.Cubes.{pieces};
 ghost use Rattle.walk.specs.Stack.{piece, piece_at, stack_of, numbered};
+ghost use Rattle.walk.specs.Tasks.{tasks, Kept};
 
-use parts::Part;
+use cubes::area::cube_at;
+use parts::{Part, lies_within};
 
-/// Copies the cube at place `t` to the next place.
-pub(crate) fn copy_next<P: Part>(area: &mut [P], t: usize, p: usize)
-    requires { t * p + (p + p) ≤ length area.old }
-    ensures { area.new ≡ put_at p (t + 1) (cube_at p t area.old) area.old }
-{
-    let from = t * p;
-    for j in 0..p {
-        area[from + p + j] = area[from + j];
-    }
+/// Pieces of a cube, each with the number of the next row that it is to be cut by: the first `depth` cubes of `work`, each of `p` parts, with
+/// the numbers beside them. The last is on top.
+#[derive(Drop)]
+pub(crate) struct Stack<'a, P> {
+    pub(crate) work: &'a mut [P],
+    pub(crate) numbers: &'a mut [usize],
+    pub(crate) p: usize,
+    pub(crate) depth: usize,
 }
 
 /// Makes the cube `a` its piece of part `k` outside `b`.
@@ -23,99 +24,75 @@ pub(crate) fn make_piece<P: Part>(a: &mut [P], b: &[P], k: usize)
     requires k_in_bounds { k < length a.old }
     ensures { map P.set a.new ≡ piece k (map P.set a.old) (map P.set b.now) }
 {
-    for j in 0..k {
-        a[j] = a[j].common(b[j]);
+    for (j, part) in b[..k].iter().enumerate() {
+        a[j] = a[j].common(*part);
     }
     a[k] = a[k].outside(b[k]);
 }
 
-/// Makes the cube at place `t` its piece of part `k` outside `b`, with the number `next`.
-pub(crate) fn put_piece<P: Part>(
-    work: &mut [P],
-    numbers: &mut [usize],
-    p: usize,
-    t: usize,
-    b: &[P],
-    k: usize,
-    next: usize,
-)
-    requires fits { t * p + p ≤ length work.old }
-    requires room { t < length numbers.old }
-    requires size { length b.now ≡ p }
-    requires part { k < p }
-    ensures cubes { map P.set work.new ≡ put_at p t (piece k (cube_at p t (map P.set work.old)) (map P.set b.now)) (map P.set work.old) }
-    ensures numbers { numbers.new ≡ edited numbers.old t next }
-{
-    make_piece(&mut work[t * p..t * p + p], b, k);
-    numbers[t] = next;
-}
-
-/// Puts the piece of part `k` of the cube at place `t` there, unless it is empty, and moves the cube up. The answer is the cube's place.
-pub(crate) fn push_piece<P: Part>(
-    work: &mut [P],
-    numbers: &mut [usize],
-    p: usize,
-    t: usize,
-    b: &[P],
-    k: usize,
-    next: usize,
-) -> usize
-    requires fits { t * p + (p + p) ≤ length work.old }
-    requires room { t < length numbers.old }
-    requires size { length b.now ≡ p }
-    requires part { k < p }
-    ensures stack { stack_of p result (map P.set work.new) numbers.new ≡ numbered next (piece_at k (cube_at p t (map P.set work.old)) (map P.set b.now)) ++ stack_of p t (map P.set work.old) numbers.old }
-    ensures kept { cube_at p result (map P.set work.new) ≡ cube_at p t (map P.set work.old) }
-    ensures most { result ≤ t + 1 }
-{
-    if work[t * p + k].outside(b[k]).is_empty() {
-        return t;
+impl<'a, P: Part> Stack<'a, P> {
+    /// The piece on top, with its number.
+    pub(crate) fn top(&self) -> Option<(&[P], usize)>
+        requires fits { self.now.depth * self.now.p ≤ length self.now.work.now }
+        requires beside { self.now.depth ≤ length self.now.numbers.now }
+        ensures none { result ≡ None → self.now.depth ≡ 0 }
+        ensures piece { IfSome result (λ t. (0 < self.now.depth) × (t.0.now ≡ cube_at self.now.p (self.now.depth - 1) self.now.work.now) × (t.1 ≡ slice_index self.now.numbers.now (self.now.depth - 1))) }
+    {
+        if self.depth == 0 {
+            return None;
+        }
+        let at = self.depth - 1;
+        Some((cube_at(self.work, at, self.p), self.numbers[at]))
     }
-    copy_next(work, t, p);
-    put_piece(work, numbers, p, t, b, k, next);
-    t + 1
-}
 
-/// Puts the piece of the first part of the cube at place `t` there, unless it is empty. The answer is the place after.
-pub(crate) fn push_first<P: Part>(
-    work: &mut [P],
-    numbers: &mut [usize],
-    p: usize,
-    t: usize,
-    b: &[P],
-    next: usize,
-) -> usize
-    requires some { 0 < p }
-    requires fits { t * p + p ≤ length work.old }
-    requires room { t < length numbers.old }
-    requires size { length b.now ≡ p }
-    ensures { stack_of p result (map P.set work.new) numbers.new ≡ numbered next (piece_at 0 (cube_at p t (map P.set work.old)) (map P.set b.now)) ++ stack_of p t (map P.set work.old) numbers.old }
-{
-    if work[t * p].outside(b[0]).is_empty() {
-        return t;
+    /// Takes off the piece on top.
+    pub(crate) fn pop(&mut self)
+        requires { 0 < self.old.depth }
+        ensures kept { Kept self.old self.new }
+        ensures depth { self.new.depth ≡ self.old.depth - 1 }
+        ensures work { self.new.work.now ≡ self.old.work.now }
+        ensures numbers { self.new.numbers.now ≡ self.old.numbers.now }
+    {
+        self.depth -= 1;
     }
-    put_piece(work, numbers, p, t, b, 0, next);
-    t + 1
-}
 
-/// Puts the pieces of the cube at place `d` outside `b` in its place, the first on top. The answer is the place after.
-pub(crate) fn push_pieces<P: Part>(
-    work: &mut [P],
-    numbers: &mut [usize],
-    p: usize,
-    d: usize,
-    b: &[P],
-    next: usize,
-) -> usize
-    requires some { 0 < p }
-    requires fits { d * p + p * p ≤ length work.old }
-    requires room { d + p ≤ length numbers.old }
-    requires size { length b.now ≡ p }
-    ensures { stack_of p result (map P.set work.new) numbers.new ≡ numbered next (pieces (cube_at p d (map P.set work.old)) (map P.set b.now)) ++ stack_of p d (map P.set work.old) numbers.old }
-{
-    let mut t = d;
-    for k in (1..p).rev() {
-        t = push_piece(work, numbers, p, t, b, k, next);
+    // Puts the piece of part `k` of the cube behind the stack on top, unless it is empty, and moves the cube up where there is a piece to come.
+    fn push_piece(&mut self, row: &[P], k: usize, next: usize)
+        requires fits { self.old.depth * self.old.p + self.old.p ≤ length self.old.work.now }
+        requires spare { 0 < k → self.old.depth * self.old.p + (self.old.p + self.old.p) ≤ length self.old.work.now }
+        requires room { self.old.depth < length self.old.numbers.now }
+        requires size { length row.now ≡ self.old.p }
+        requires part { k < self.old.p }
+        ensures kept { Kept self.old self.new }
+        ensures stack { tasks P.set self.new ≡ numbered next (piece_at k (cube_at self.old.p self.old.depth (map P.set self.old.work.now)) (map P.set row.now)) ++ tasks P.set self.old }
+        ensures cube { 0 < k → cube_at self.old.p self.new.depth (map P.set self.new.work.now) ≡ cube_at self.old.p self.old.depth (map P.set self.old.work.now) }
+        ensures most { self.new.depth ≤ self.old.depth + 1 }
+    {
+        let at = self.depth * self.p;
+        if lies_within(self.work[at + k], row[k]) {
+            return;
+        }
+        let end = at + self.p;
+        if k > 0 {
+            self.work.copy_within(at..end, end);
+        }
+        make_piece(&mut self.work[at..end], row, k);
+        self.numbers[self.depth] = next;
+        self.depth += 1;
     }
-    push_first(work, numbers, p, t, b, next)
+
+    /// Puts the pieces of the cube on top outside `row` in its place, the first on top.
+    pub(crate) fn cut(&mut self, row: &[P], next: usize)
+        requires some { 0 < self.old.depth }
+        requires fits { (self.old.depth - 1) * self.old.p + self.old.p * self.old.p ≤ length self.old.work.now }
+        requires room { self.old.depth - 1 + self.old.p ≤ length self.old.numbers.now }
+        requires size { length row.now ≡ self.old.p }
+        ensures kept { Kept self.old self.new }
+        ensures stack { tasks P.set self.new ≡ numbered next (pieces (cube_at self.old.p (self.old.depth - 1) (map P.set self.old.work.now)) (map P.set row.now)) ++ stack_of self.old.p (self.old.depth - 1) (map P.set self.old.work.now) self.old.numbers.now }
+    {
+        self.pop();
+        for k in (0..self.p).rev() {
+            self.push_piece(row, k, next);
+        }
+    }
 }

@@ -1,53 +1,22 @@
-use Rattle.std.proofs.Common.{Bool, true, false, map, drop, arith}
+use Rattle.std.proofs.Common.{◌≡◌, map, length, drop, ap, ◌∙◌, add-zero, arith}
+use Rattle.std.proofs.lemmas.List.{length-drop}
 use Rattle.cubes.specs.Areas.{cubes}
-use Rattle.cubes.specs.Cubes.{meets, covers}
-use Rattle.cubes.proofs.Areas.{place_below}
+use Rattle.cubes.specs.Lists.{left}
+use Rattle.cubes.proofs.Areas.{length-cubes, map-drop-cubes}
 use Rattle.walk.specs.Look.{look_of}
-use Rattle.walk.proofs.Looks.{found_gone, found_first, found_later, found_none, found_all, row_test}
 use Rattle.walk.proofs.rest.look_ahead.Goals as goal
-use Rattle.walk.proofs.rest.look_ahead.Goals.{then-meets+else-covers+in-Free, then-meets+else-covers+in_default, else-meets}
 
-pub cube_at-row-requires : goal.cube_at-row-requires
-cube_at-row-requires g c = omega (arith, place_below c.loop-j.j c.args.n c.args.p c.loop-j-test.true)
-
-pub returns-then-covers : goal.returns-then-covers
-returns-then-covers g c =
+pub loop-j-init : goal.loop-j-init
+loop-j-init g c =
     let s = g.P.Part.set in
-    let p = c.args.p in
-    let n = c.args.n in
-    let j = c.loop-j.j in
-    let list = c.args.list.now in
-    let row = c.cube_at-row.result.now in
-    let a = map s c.args.c.now in
-    let o = look_of a c.args.i (drop c.args.i (cubes p n (map s list))) in
-    let met = row_test s p j list row (meets a) c.meets.result true c.cube_at-row.ensures c.meets.ensures c.if-meets.true in
-    let covered = row_test s p j list row (λ b. covers b a) c.covers.result true c.cube_at-row.ensures c.covers.ensures c.if-covers.true in
-    found_gone p n j (map s list) a c.loop-j-test.true c.loop-j.first o c.loop-j.invariant met covered
+    let i = c.args.from in
+    let l = c.args.list.now in
+    let rows = cubes l.p l.n l.parts.now in
+    let e : left c.iter-row-items.result ≡ drop i rows = c.iter-row-items.ensures.rest ∙ c.after.ensures.cubes in
+    let a = map s c.args.c.now in (
+      rw add-zero (ap (λ D. look_of a i (map (map s) D)) e ∙ ap (look_of a i) (map-drop-cubes s l.p l.n i l.parts.now)),
+      omega (arith, ap length e, length-drop i rows, length-cubes l.p l.n l.parts.now, c.requires),
+    )
 
-pub loop-j-preserved : goal.loop-j-preserved
-loop-j-preserved g c =
-    let s = g.P.Part.set in
-    let p = c.args.p in
-    let n = c.args.n in
-    let j = c.loop-j.j in
-    let list = c.args.list.now in
-    let row = c.cube_at-row.result.now in
-    let a = map s c.args.c.now in
-    let o = look_of a c.args.i (drop c.args.i (cubes p n (map s list))) in
-    let met = λ (b : Bool). row_test s p j list row (meets a) c.meets.result b c.cube_at-row.ensures c.meets.ensures in
-    elim c.if-meets.branch [
-      | then-meets+else-covers+in-Free w ↦
-          let uncovered = row_test s p j list row (λ b. covers b a) w.covers.result false c.cube_at-row.ensures w.covers.ensures w.if-covers.false in
-          found_first p n j (map s list) a c.loop-j-test.true c.loop-j.first o c.loop-j.invariant c.if-meets.first w.in-Free.is w.first-is (met true w.if-meets.true) uncovered
-      | then-meets+else-covers+in_default w ↦
-          let uncovered = row_test s p j list row (λ b. covers b a) w.covers.result false c.cube_at-row.ensures w.covers.ensures w.if-covers.false in
-          found_later p n j (map s list) a c.loop-j-test.true c.loop-j.first o c.loop-j.invariant c.if-meets.first w.in_default.not-Free w.first-is (met true w.if-meets.true) uncovered
-      | else-meets w ↦ found_none p n j (map s list) a c.loop-j-test.true c.loop-j.first o c.loop-j.invariant c.if-meets.first w.first-is (met false w.if-meets.false)
-    ]
-
-pub returns : goal.returns
-returns g c =
-    let s = g.P.Part.set in
-    let a = map s c.args.c.now in
-    let ls = map s c.args.list.now in
-    found_all c.args.p c.args.n c.loop-j.j ls a c.loop-j-test.false c.loop-j.first (look_of a c.args.i (drop c.args.i (cubes c.args.p c.args.n ls))) c.loop-j.invariant
+pub overflow_add-first : goal.overflow_add-first
+overflow_add-first g c = omega (arith, c.loop-j.invariant.1, c.args.list.now.counted)
