@@ -33,12 +33,6 @@ pub fn add<P: Part>(
             let Table { p, rows } = t;
             Ok(Table { p, rows: rows + 1 })
         }
-        Err(cause) => Err((
-            t,
-            Fault {
-                layer: Layer::Table,
-                cause,
-            },
-        )),
+        Err(cause) => Err((t, cause.by(Layer::Table))),
     }
 }

@@ -16,9 +16,6 @@ pub fn begin<P: Part>(p: usize, sizes: &[usize; 16], universe: &mut [P]) -> Resu
 {
     match begin_universe(p, sizes, universe) {
         Ok(()) => Ok(Table { p, rows: 0 }),
-        Err(cause) => Err(Fault {
-            layer: Layer::Table,
-            cause,
-        }),
+        Err(cause) => Err(cause.by(Layer::Table)),
     }
 }

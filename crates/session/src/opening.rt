@@ -2,29 +2,18 @@
 ghost use Rattle.std.specs.Prelude.{◌≡◌, ◌*◌, map, length, drop};
 ghost use Rattle.session.specs.Calls.{leaving, opening};
 ghost use Rattle.session.specs.Exact.{OpensExactly};
-ghost use Rattle.session.specs.States.{filling, opened_answer, by_engine};
+ghost use Rattle.session.specs.States.{filling, opened_answer};
 ghost use Rattle.session.specs.Stays.{off_written, solution_written, work_written};
 
 use crate::types::{Open, Table};
-use faults::{Cause, Fault, Layer};
+use cubes::list::Cubes;
+use faults::{Fault, Layer};
 use parts::Part;
 use table::card::Card;
 use table::off::off_list;
 use table::open::{Lengths, check_open, copy_on_rows};
 use table::row::area_length;
-
-// A refusal of the engine, with the table handed back.
-fn refused(t: Table, cause: Cause) -> (Table, Fault)
-    ensures { result ≡ (t, by_engine cause) }
-{
-    (
-        t,
-        Fault {
-            layer: Layer::Engine,
-            cause,
-        },
-    )
-}
+use table::rows::Rows;
 
 /// Opens a table: its off list goes to the off area (3), and its ON rows to the solution (4, with its cards) as the solution to start with;
 /// the work area (5, with its numbers) is used and cleared. Refuses `area` and `off`; after `off` the off area holds the cubes that fit, and
@@ -55,18 +44,20 @@ pub fn open<P: Part>(
         work: area_length(p, work.len(), numbers.len()),
     };
     if let Err(cause) = check_open(p, n, rows, has) {
-        return Err(refused(t, cause));
+        return Err((t, cause.by(Layer::Engine)));
     }
-    let list = off_list(p, n, universe, table, off, work, numbers);
-    if !list.whole {
-        return Err(refused(t, Cause::Off { most: list.count }));
-    }
-    let count = copy_on_rows(p, n, table, rows, solution, cards);
+    let list = Cubes::new(table, p, n);
+    let list = Rows::new(list, rows);
+    let off = match off_list(&universe[..p], &list.cubes, off, work, numbers) {
+        Ok(off) => off,
+        Err(cause) => return Err((t, cause.by(Layer::Engine))),
+    };
+    let count = copy_on_rows(&list, solution, cards);
     let Table { p, rows } = t;
     Ok(Open {
         p,
         rows,
-        off: list.count,
+        off,
         count,
     })
 }

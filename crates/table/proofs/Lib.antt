@@ -1,4 +1,5 @@
 pub mod Verdicts
-pub mod Rows
+pub mod OnRows
+pub mod Beside
 mod Offs
 mod Lowest

@@ -1,15 +1,12 @@
 -- One step of each check that goes through a list.
-use Rattle.std.proofs.Common.{◌≡◌, ℕ, zero, suc, ◌+◌, ◌-◌, ◌*◌, ◌/◌, ◌%◌, ◌^◌, ◌<◌, ◌≤◌, Bool, true, false, cond, ◌&&◌, ◌||◌, eqb, ltb, leb, ◌⊎◌, List, [], ◌∷◌, ◌++◌, map, length, get_or, take, drop, set, Ok, Err, sym, refl, ap, ◌∙◌, ap₂, inl, inr, mod-eq_of_lt, add-mul, one-mul, le-div_iff_mul-le, add-one, one-add, arith, pow_mono}
+use Rattle.std.proofs.Common.{◌≡◌, ℕ, zero, suc, ◌+◌, ◌*◌, ◌<◌, ◌≤◌, Bool, true, false, cond, ◌&&◌, ◌||◌, eqb, ltb, leb, ◌⊎◌, List, [], ◌∷◌, ◌++◌, map, length, get_or, take, drop, set, Ok, Err, sym, refl, ap, ◌∙◌, ap₂, inl, inr, add-mul, one-mul, le-div_iff_mul-le, add-one, one-add, arith}
 use mathlib.Core.Bool.{beq}
-use native.Mathlib.Nat.{one-le-pow}
-use lib.Bits.{bit_or}
-use lib.Pow.{ones_lt, ones_split}
-use Rattle.std.proofs.lemmas.Nat.{shr_high}
 use lib.Count.{count_trailing_zeros}
 use Rattle.std.specs.List.{list_all, zip}
 use Rattle.parts.specs.Sets.{minus, whole}
 use Rattle.cubes.specs.Areas.{cube_at}
 use Rattle.cubes.specs.Cubes.{Cube, same as same_parts}
+use Rattle.cubes.specs.Tables.{Row}
 use Rattle.table.specs.declared.card.Card.{Card}
 use Rattle.faults.specs.declared.Kind.{Kind}
 use Rattle.faults.specs.Codes.{is_on_kind}
@@ -17,7 +14,7 @@ use Rattle.table.specs.Cards.{area_length, rows_of, is_on, blank}
 use Rattle.std.proofs.lemmas.List.{drop_more, drop_all, get_or-take, length-take, length-map, get_or-map, get_or_default, map_more, set_at, append_assoc, drop-drop, get_or-drop}
 use Rattle.faults.specs.declared.Cause.{Cause}
 use Rattle.faults.specs.declared.Cause.TheVariants.{Shape, Area, Empty, Outside, Repeat, Full}
-use Rattle.std.proofs.lemmas.Bool.{le-ltb, ltb-false, eqb-true}
+use Rattle.std.proofs.lemmas.Bool.{le-ltb, ltb-false}
 use Rattle.std.proofs.lemmas.Bool.Decides.{nat_tests}
 use Rattle.table.specs.Filling.{Verdict, ◌then◌, area_verdict, sizes_verdict, shape_verdict, universe_of, empty_verdict, outside_verdict, repeat_verdict, full_verdict, add_verdict}
 
@@ -115,6 +112,13 @@ outside_end A U k (inr h) = rw (drop_all k U h) (none k (drop k A))
     none k [] = refl
     none k (b ∷ B) = refl
 
+-- where one of them has no part left
+pub outside_none : (k : ℕ) (A U : List ℕ) → (length A ≡ 0) ⊎ (length U ≡ 0) → outside_verdict k A U ≡ Ok tt
+outside_none k [] U h = refl
+outside_none k (a ∷ A) [] h = refl
+outside_none k (a ∷ A) (u ∷ U) (inl h) = absurd (omega arith)
+outside_none k (a ∷ A) (u ∷ U) (inr h) = absurd (omega arith)
+
 -- ---- a cube beside a row that words make
 
 pub same_all : {X : Type 0} (s : X → ℕ) (f : ℕ → ℕ) (xs : List X) (ws : List ℕ) → length xs ≡ length ws
@@ -159,14 +163,14 @@ rows_left p (suc n) (suc i) ts cs h =
     ∙ ap₂ (λ (A : List ℕ) (c : Card). record { cube = take p A; on = is_on c } ∷ drop (i + 1) (rows_of p n (drop p ts) (drop 1 cs)))
     (drop-drop (i * p) p ts ∙ ap (λ m. drop m ts) e) (get_or-drop 1 cs i blank ∙ ap (λ m. get_or cs m blank) (one-add i)))
 
-pub repeat_step : (kind : Kind) (A : Cube) (p n i : ℕ) (ts : List ℕ) (cs : List Card) → i < n
-    → repeat_verdict kind A i (drop i (rows_of p n ts cs))
-    ≡ cond (beq (is_on (get_or cs i blank)) (is_on_kind kind) && same_parts (cube_at p i ts) A) (Err (Repeat i kind))
-    (repeat_verdict kind A (i + 1) (drop (i + 1) (rows_of p n ts cs)))
-repeat_step kind A p n i ts cs h = rw (rows_left p n i ts cs h, add-one)
+-- the next row is the first that has the same parts, or it is passed
+pub repeat_found : (kind : Kind) (A : Cube) (i : ℕ) (r : Row) (T : List Row) → beq r.on (is_on_kind kind) ≡ true → same_parts r.cube A ≡ true
+    → repeat_verdict kind A i (r ∷ T) ≡ Err (Repeat i kind)
+repeat_found kind A i r T k q = rw (k, q)
 
-pub repeat_end : (kind : Kind) (A : Cube) (p n i : ℕ) (ts : List ℕ) (cs : List Card) → n ≤ i → repeat_verdict kind A i (drop i (rows_of p n ts cs)) ≡ Ok tt
-repeat_end kind A p n i ts cs h = rw (drop_all i (rows_of p n ts cs) (rw length_rows h))
+pub repeat_passed : (kind : Kind) (A : Cube) (i : ℕ) (r : Row) (T : List Row) → (beq r.on (is_on_kind kind) && same_parts r.cube A) ≡ false
+    → repeat_verdict kind A i (r ∷ T) ≡ repeat_verdict kind A (suc i) T
+repeat_passed kind A i r T t = rw t
 
 -- a row that is added has room
 pub then_both : (v w : Verdict) → (v then w) ≡ Ok tt → (v ≡ Ok tt) × (w ≡ Ok tt)

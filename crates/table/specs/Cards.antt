@@ -1,5 +1,5 @@
 -- The cards beside the rows, and the table that rows and cards make.
-use Rattle.std.specs.Prelude.{ℕ, zero, suc, ◌+◌, ◌/◌, min, Bool, true, false, cond, List, [], ◌∷◌, take, drop, ◌==◌, slice_index_or}
+use Rattle.std.specs.Prelude.{ℕ, zero, suc, ◌+◌, ◌/◌, min, Bool, false, cond, List, [], ◌∷◌, take, drop, ◌==◌, slice_index_or}
 use Rattle.cubes.specs.Tables.{Row}
 use Rattle.table.specs.declared.card.Card.{Card}
 use Rattle.faults.specs.Codes.{kind_number}

@@ -1,3 +1,4 @@
 pub mod Cards
 pub mod Filling
+pub mod Lists
 pub mod Opening

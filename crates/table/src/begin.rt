@@ -28,12 +28,11 @@ pub fn check_shape<P: Part>(p: usize, sizes: &[usize; 16]) -> Result<(), Cause>
         });
     }
     let most = P::MOST as usize;
-    for k in 0..p {
-        let size = sizes[k];
-        if size < 1 || size > most {
+    for (k, size) in sizes[..p].iter().enumerate() {
+        if *size < 1 || *size > most {
             return Err(Cause::Shape {
                 first: k,
-                second: size,
+                second: *size,
             });
         }
     }
@@ -55,8 +54,8 @@ fn write_universe<P: Part>(p: usize, sizes: &[usize; 16], universe: &mut [P])
     ensures sets { map P.set universe.new ≡ overlay (universe_of p sizes.now) (map P.set universe.old) }
     ensures stays { drop p universe.new ≡ drop p universe.old }
 {
-    for k in 0..p {
-        universe[k] = whole(sizes[k]);
+    for (k, size) in sizes[..p].iter().enumerate() {
+        universe[k] = whole(*size);
     }
 }
 

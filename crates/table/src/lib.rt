@@ -6,3 +6,4 @@ pub mod card;
 pub mod off;
 pub mod open;
 pub mod row;
+pub mod rows;

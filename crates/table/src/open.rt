@@ -6,45 +6,31 @@ ghost use Rattle.table.specs.Opening.{open_verdict};
 
 use crate::begin::check_area;
 use crate::card::Card;
-use cubes::area::{copy_cube, cube_at};
+use crate::rows::Rows;
+use cubes::area::copy_cube;
 use faults::Cause;
 use parts::Part;
 
-/// How many of the first `rows` cards are ON.
-pub fn count_on(rows: usize, cards: &[Card]) -> usize
-    requires { rows ≤ length cards.now }
-    ensures { result ≡ on_count rows cards.now }
+/// How many of the cards are those of ON rows.
+pub fn count_on(cards: &[Card]) -> usize
+    ensures { result ≡ on_count (length cards.now) cards.now }
 {
-    let mut on = 0;
-    for i in 0..rows {
-        if cards[i].kind == 0 {
-            on += 1;
-        }
-    }
-    on
+    cards.iter().filter(|card| card.is_on()).count()
 }
 
-/// Copies the ON rows, in order, to the start of the solution, each with a blank card.
-pub fn copy_on_rows<P: Part>(
-    p: usize,
-    rows: usize,
-    table: &[P],
-    cards: &[Card],
-    solution: &mut [P],
-    notes: &mut [Card],
-) -> usize
-    requires fits { rows * p ≤ length table.now }
-    requires beside { rows ≤ length cards.now }
-    requires room { on_count rows cards.now * p ≤ length solution.old }
-    requires noted { on_count rows cards.now ≤ length notes.old }
-    ensures count { result ≡ on_count rows cards.now }
-    ensures cubes { solution.new ≡ overlay (flat (on_cubes p rows table.now cards.now)) solution.old }
-    ensures cards { notes.new ≡ overlay (replicate (on_count rows cards.now) blank) notes.old }
+/// Copies the ON rows, in order, to the start of the solution, each with a blank card. The answer is how many they are.
+pub fn copy_on_rows<P: Part>(rows: &Rows<P>, solution: &mut [P], notes: &mut [Card]) -> usize
+    requires room { on_count rows.now.cubes.n rows.now.cards.now * rows.now.cubes.p ≤ length solution.old }
+    requires noted { on_count rows.now.cubes.n rows.now.cards.now ≤ length notes.old }
+    ensures count { result ≡ on_count rows.now.cubes.n rows.now.cards.now }
+    ensures cubes { solution.new ≡ overlay (flat (on_cubes rows.now.cubes.p rows.now.cubes.n rows.now.cubes.parts.now rows.now.cards.now)) solution.old }
+    ensures cards { notes.new ≡ overlay (replicate (on_count rows.now.cubes.n rows.now.cards.now) blank) notes.old }
 {
+    let p = rows.cubes.width();
     let mut on = 0;
-    for i in 0..rows {
-        if cards[i].kind == 0 {
-            copy_cube(solution, on, p, cube_at(table, i, p));
+    for (cube, card) in rows.cubes.iter().zip(rows.cards) {
+        if card.is_on() {
+            copy_cube(solution, on, p, cube);
             notes[on] = Card::blank();
             on += 1;
         }
@@ -71,6 +57,6 @@ pub fn check_open(p: usize, rows: usize, cards: &[Card], has: Lengths) -> Result
 {
     check_area(1, has.universe, p)?;
     check_area(2, has.table, rows)?;
-    check_area(4, has.solution, count_on(rows, cards))?;
+    check_area(4, has.solution, count_on(&cards[..rows]))?;
     check_area(5, has.work, 1 + (p - 1) * rows)
 }

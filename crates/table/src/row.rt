@@ -5,12 +5,14 @@ ghost use Rattle.std.proofs.Math.Seq.{paste};
 ghost use Rattle.parts.specs.Sets.{some};
 ghost use Rattle.cubes.specs.Areas.{put_at};
 ghost use Rattle.cubes.specs.Cubes.{same};
-ghost use Rattle.table.specs.Cards.{row_card, rows_of, area_length};
-ghost use Rattle.table.specs.Filling.{empty_verdict, outside_verdict, repeat_verdict, full_verdict, row_verdict, add_verdict, made_row, Lowest};
+ghost use Rattle.table.specs.Cards.{row_card, area_length};
+ghost use Rattle.table.specs.Lists.{rows_in};
+ghost use Rattle.table.specs.Filling.{empty_verdict, outside_verdict, repeat_verdict, full_verdict, add_verdict, made_row, Lowest};
 
 use crate::begin::check_area;
 use crate::card::{Card, Kind};
-use cubes::area::cube_at;
+use crate::rows::Rows;
+use cubes::list::Cubes;
 use faults::Cause;
 use parts::{Part, lies_within, word_of};
 
@@ -26,8 +28,8 @@ pub fn area_length(p: usize, parts: usize, beside: usize) -> usize
 fn check_empty<P: Part>(words: &[u64]) -> Result<(), Cause>
     ensures { result ≡ empty_verdict 0 (made_row P.MOST words.now) }
 {
-    for part in 0..words.len() {
-        if P::make(words[part]).is_empty() {
+    for (part, word) in words.iter().enumerate() {
+        if P::make(*word).is_empty() {
             return Err(Cause::Empty { part });
         }
     }
@@ -46,9 +48,8 @@ fn lowest<P: Part>(values: P) -> usize
 fn check_outside<P: Part>(words: &[u64], universe: &[P]) -> Result<(), Cause>
     ensures { result ≡ outside_verdict 0 (made_row P.MOST words.now) (map P.set universe.now) }
 {
-    let n = words.len().min(universe.len());
-    for part in 0..n {
-        let values = P::make(words[part]).outside(universe[part]);
+    for (part, (word, whole)) in words.iter().zip(universe).enumerate() {
+        let values = P::make(*word).outside(*whole);
         if !values.is_empty() {
             return Err(Cause::Outside {
                 part,
@@ -79,21 +80,12 @@ fn same_as_row<P: Part>(cube: &[P], words: &[u64]) -> bool
 }
 
 // Whether no earlier row of this kind has the same parts.
-fn check_repeat<P: Part>(
-    p: usize,
-    rows: usize,
-    kind: Kind,
-    words: &[u64],
-    table: &[P],
-    cards: &[Card],
-) -> Result<(), Cause>
-    requires fits { rows * p ≤ length table.now }
-    requires beside { rows ≤ length cards.now }
-    ensures { result ≡ repeat_verdict kind (made_row P.MOST words.now) 0 (rows_of p rows (map P.set table.now) cards.now) }
+fn check_repeat<P: Part>(kind: Kind, words: &[u64], rows: &Rows<P>) -> Result<(), Cause>
+    ensures { result ≡ repeat_verdict kind (made_row P.MOST words.now) 0 (rows_in P.set rows.now) }
 {
-    for i in 0..rows {
-        if (cards[i].kind == 0) == kind.is_on() && same_as_row(cube_at(table, i, p), words) {
-            return Err(Cause::Repeat { row: i, kind });
+    for (row, (cube, card)) in rows.cubes.iter().zip(rows.cards).enumerate() {
+        if card.is_on() == kind.is_on() && same_as_row(cube, words) {
+            return Err(Cause::Repeat { row, kind });
         }
     }
     Ok(())
@@ -109,28 +101,7 @@ fn check_full(rows: usize, has: usize) -> Result<(), Cause>
     Ok(())
 }
 
-// Checks a row: all parts for a value first, then for one that the universe lacks, then the earlier rows, then the room.
-fn check_row<P: Part>(
-    p: usize,
-    rows: usize,
-    kind: Kind,
-    words: &[u64],
-    universe: &[P],
-    table: &[P],
-    cards: &[Card],
-) -> Result<(), Cause>
-    requires some { 1 ≤ p }
-    requires fits { rows * p ≤ length table.now }
-    requires beside { rows ≤ length cards.now }
-    ensures { result ≡ row_verdict p rows kind (made_row P.MOST words.now) (map P.set universe.now) (map P.set table.now) cards.now }
-{
-    check_empty::<P>(words)?;
-    check_outside(words, universe)?;
-    check_repeat(p, rows, kind, words, table, cards)?;
-    check_full(rows, area_length(p, table.len(), cards.len()))
-}
-
-// The areas first, then the row.
+// The areas first; then all parts of the row for a value, then for one that the universe lacks, then the earlier rows, then the room.
 fn check_add<P: Part>(
     p: usize,
     rows: usize,
@@ -143,9 +114,14 @@ fn check_add<P: Part>(
     requires some { 1 ≤ p }
     ensures { result ≡ add_verdict p rows kind (made_row P.MOST words.now) (map P.set universe.now) (map P.set table.now) cards.now }
 {
+    let has = area_length(p, table.len(), cards.len());
     check_area(1, universe.len(), p)?;
-    check_area(2, area_length(p, table.len(), cards.len()), rows)?;
-    check_row(p, rows, kind, words, cube_at(universe, 0, p), table, cards)
+    check_area(2, has, rows)?;
+    check_empty::<P>(words)?;
+    check_outside(words, &universe[..p])?;
+    let earlier = Cubes::new(table, p, rows);
+    check_repeat(kind, words, &Rows::new(earlier, cards))?;
+    check_full(rows, has)
 }
 
 // Writes the parts of a row.
@@ -155,8 +131,8 @@ fn write_parts<P: Part>(from: usize, words: &[u64], table: &mut [P])
     ensures before { take from table.new ≡ take from table.old }
     ensures behind { drop (from + length words.now) table.new ≡ drop (from + length words.now) table.old }
 {
-    for k in 0..words.len() {
-        table[from + k] = P::make(words[k]);
+    for (k, word) in words.iter().enumerate() {
+        table[from + k] = P::make(*word);
     }
 }
 

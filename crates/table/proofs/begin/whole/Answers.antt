@@ -1,4 +1,4 @@
-use Rattle.std.proofs.Common.{◌^◌, ◌<◌, ◌∙◌, ap, ◌%◌, mod-eq_of_lt, pow_mono, arith}
+use Rattle.std.proofs.Common.{◌^◌, ◌∙◌, ap, ◌%◌, mod-eq_of_lt, pow_mono, arith}
 use native.Mathlib.Nat.{one-le-pow}
 use Rattle.table.proofs.begin.whole.Goals as goal
 

@@ -1,74 +1,82 @@
-use Rattle.std.proofs.Common.{◌≡◌, ◌+◌, ◌-◌, ◌*◌, ◌<◌, ◌≤◌, true, false, length, get_or, drop, set, ap, ◌∙◌, mul-le-mul_right, arith}
-use Rattle.std.proofs.lemmas.Bool.{eq-eqb, ne_eqb}
-use Rattle.cubes.specs.Areas.{cube_at, put_at}
-use Rattle.cubes.proofs.Areas.{place_below, length-cube_at}
-use Rattle.table.specs.Cards.{blank, is_on, on_count}
-use Rattle.table.proofs.Rows.{count-step, copying_none, copying_on, copying_off, copying_all, on_room}
+use Rattle.std.proofs.Common.{rules, ◌≡◌, ◌*◌, ◌≤◌, true, length, sym, ap, ◌∙◌, inl, inr, ⊎_elim, arith}
+use Rattle.cubes.specs.Areas.{cubes}
+use Rattle.cubes.specs.Lists.{left}
+use Rattle.cubes.proofs.Areas.{wide_cubes}
+use Rattle.table.specs.Cards.{is_on, on_cubes}
+use Rattle.table.proofs.Beside.{on_is, on_end}
+use Rattle.table.proofs.OnRows.{copying_none, copying_on, copying_room, copying-card, copying_all, length-on_cubes}
 use Rattle.table.proofs.open.copy_on_rows.Goals as goal
-use Rattle.table.proofs.open.copy_on_rows.Goals.{then-cards-i-eq0, else-cards-i-eq0}
 
-pub cube_at-requires : goal.cube_at-requires
-cube_at-requires g c = omega (arith, place_below c.loop-i.i c.args.rows c.args.p c.loop-i-test.true)
+pub loop-cube-init : goal.loop-cube-init
+loop-cube-init g c =
+    let l = c.args.rows.now.cubes in
+    let p = l.p in
+    let cs = c.args.rows.now.cards.now in
+    let start = c.into_iter-cube-iterator.result in
+    let C : left start.a ≡ cubes p l.n l.parts.now = ap (λ z. left z.a) c.into_iter-cube-iterator.ensures.into_iter_gives ∙ ap left c.zip-cube-items.ensures.first ∙ c.iter.ensures.rest in
+    let K : start.b.rest.now ≡ cs = search rules in (
+      rw (C, K, on_is p l.n l.parts.now cs c.args.rows.now.beside) (copying_none p (cubes p l.n l.parts.now) cs c.args.solution.now c.args.notes.now),
+      rw C (wide_cubes p l.n l.parts.now l.fits),
+    )
 
-pub copy_cube-requires : goal.copy_cube-requires
-copy_cube-requires g c =
-    let p = c.args.p in
-    let i = c.loop-i.i in
-    let fits : i * p + p ≤ length c.args.table.now = omega (arith, place_below i c.args.rows p c.loop-i-test.true) in
-    let t : is_on (get_or c.args.cards.now i blank) ≡ true = eq-eqb _ 0 c.if-cards-i-eq0.true in
-    let e = rw t at (count-step c.args.rows i c.args.cards.now c.loop-i-test.true) in
-    record {
-      src_len = ap length c.cube_at.ensures ∙ length-cube_at p i c.args.table.now fits;
-      p_in_bounds = on_room p c.loop-i.on (on_count (c.args.rows - (i + 1)) (drop (i + 1) c.args.cards.now)) (on_count c.args.rows c.args.cards.now) (length c.loop-i.solution)
-          (omega (arith, c.loop-i.invariant.0)) (omega arith);
-    }
+pub copy_cube-requires-clause-p_in_bounds : goal.copy_cube-requires-clause-p_in_bounds
+copy_cube-requires-clause-p_in_bounds g c =
+    let l = c.args.rows.now.cubes in
+    let p = l.p in
+    let cs = c.args.rows.now.cards.now in
+    let all = on_cubes p l.n l.parts.now cs in
+    let steps = c.in-Some.ensures.steps in
+    let E = c.args.solution.now in
+    let F = c.args.notes.now in
+    let next = c.next.new.self in
+    let count = length-on_cubes p l.n l.parts.now cs in
+    let t : is_on c.in-Some.card.now ≡ true = sym c.is_on.ensures ∙ c.if-is_on.true in
+    let inv = rw (steps.0, steps.1) at c.loop-cube.invariant in
+    let fits : length all * p ≤ length c.loop-cube.solution = rw count (omega (arith, c.requires.room, c.loop-cube.auto.solution)) in
+    rw c.width-p.ensures (copying_room p all E F c.in-Some.cube.now (left next.a) c.in-Some.card.now next.b.rest.now c.loop-cube.on c.loop-cube.solution c.loop-cube.notes inv.0 t fits)
 
 pub bounds-notes-on : goal.bounds-notes-on
 bounds-notes-on g c =
-    let t : is_on (get_or c.args.cards.now c.loop-i.i blank) ≡ true = eq-eqb _ 0 c.if-cards-i-eq0.true in
-    let e = rw t at (count-step c.args.rows c.loop-i.i c.args.cards.now c.loop-i-test.true) in
-    omega (arith, c.loop-i.invariant.0)
-
-pub loop-i-init : goal.loop-i-init
-loop-i-init g c = copying_none c.args.p c.args.rows c.args.table.now c.args.cards.now c.args.solution.now c.args.notes.now
-
-pub loop-i-preserved : goal.loop-i-preserved
-loop-i-preserved g c =
-    let p = c.args.p in
-    let n = c.args.rows in
-    let ts = c.args.table.now in
-    let cs = c.args.cards.now in
+    let l = c.args.rows.now.cubes in
+    let p = l.p in
+    let cs = c.args.rows.now.cards.now in
+    let all = on_cubes p l.n l.parts.now cs in
+    let steps = c.in-Some.ensures.steps in
     let E = c.args.solution.now in
     let F = c.args.notes.now in
-    let i = c.loop-i.i in
-    let on = c.loop-i.on in
-    let S = c.loop-i.solution in
-    let N = c.loop-i.notes in
-    let fits : i * p + p ≤ length ts = omega (arith, place_below i n p c.loop-i-test.true) in
-    let count = count-step n i cs c.loop-i-test.true in
-    elim c.if-cards-i-eq0.branch [
-      | then-cards-i-eq0 w ↦
-          let t : is_on (get_or cs i blank) ≡ true = eq-eqb _ 0 w.if-cards-i-eq0.true in
-          let e = rw t at count in
-          let room : on * p + p ≤ length S = on_room p on (on_count (n - (i + 1)) (drop (i + 1) cs)) (on_count n cs) (length S) (omega (arith, c.loop-i.invariant.0)) (omega arith) in
-          let noted : on < length N = omega (arith, c.loop-i.invariant.0) in
-          let s : c.if-cards-i-eq0.solution ≡ put_at p on (cube_at p i ts) S = w.solution-is ∙ w.copy_cube.ensures ∙ ap (λ C. put_at p on C S) w.cube_at.ensures in
-          let m : c.if-cards-i-eq0.notes ≡ set N on blank = w.notes-is ∙ ap (set N on) w.blank.ensures in
-          let o : c.if-cards-i-eq0.on ≡ on + 1 = w.on-is in
-          rw (s, m, o) (copying_on p n ts cs E F i on S N c.loop-i-test.true t (length-cube_at p i ts fits) room noted c.loop-i.invariant)
-      | else-cards-i-eq0 w ↦
-          let t : is_on (get_or cs i blank) ≡ false = ne_eqb _ 0 w.if-cards-i-eq0.false in
-          rw (w.solution-is, w.notes-is, w.on-is) (copying_off p n ts cs E F i on S N c.loop-i-test.true t c.loop-i.invariant)
-    ]
+    let next = c.next.new.self in
+    let count = length-on_cubes p l.n l.parts.now cs in
+    let t : is_on c.in-Some.card.now ≡ true = sym c.is_on.ensures ∙ c.if-is_on.true in
+    let inv = rw (steps.0, steps.1) at c.loop-cube.invariant in
+    copying-card p all E F c.in-Some.cube.now (left next.a) c.in-Some.card.now next.b.rest.now c.loop-cube.on c.loop-cube.solution c.loop-cube.notes inv.0 t (omega (arith, count, c.requires.noted, c.loop-cube.auto.notes))
+
+pub loop-cube-preserved-then-is_on : goal.loop-cube-preserved-then-is_on
+loop-cube-preserved-then-is_on g c =
+    let l = c.args.rows.now.cubes in
+    let p = l.p in
+    let cs = c.args.rows.now.cards.now in
+    let all = on_cubes p l.n l.parts.now cs in
+    let steps = c.in-Some.ensures.steps in
+    let E = c.args.solution.now in
+    let F = c.args.notes.now in
+    let next = c.next.new.self in
+    let count = length-on_cubes p l.n l.parts.now cs in
+    let t : is_on c.in-Some.card.now ≡ true = sym c.is_on.ensures ∙ c.if-is_on.true in
+    let inv = rw (steps.0, steps.1) at c.loop-cube.invariant in
+    let fits : length all * p ≤ length c.loop-cube.solution = rw count (omega (arith, c.requires.room, c.loop-cube.auto.solution)) in
+    let room = copying_room p all E F c.in-Some.cube.now (left next.a) c.in-Some.card.now next.b.rest.now c.loop-cube.on c.loop-cube.solution c.loop-cube.notes inv.0 t fits in
+    let noted = copying-card p all E F c.in-Some.cube.now (left next.a) c.in-Some.card.now next.b.rest.now c.loop-cube.on c.loop-cube.solution c.loop-cube.notes inv.0 t (omega (arith, count, c.requires.noted, c.loop-cube.auto.notes)) in
+    (rw (c.copy_cube.ensures, c.width-p.ensures, c.blank.ensures) (copying_on p all E F c.in-Some.cube.now (left next.a) c.in-Some.card.now next.b.rest.now c.loop-cube.on c.loop-cube.solution c.loop-cube.notes inv.0 t inv.1.0 room noted), inv.1.1)
 
 pub returns : goal.returns
 returns g c =
-    let p = c.args.p in
-    let n = c.args.rows in
-    let cs = c.args.cards.now in
-    let e : c.loop-i.i ≡ n = omega arith in
-    let inv = rw e at c.loop-i.invariant in
-    let few : c.loop-i.on ≤ on_count n cs = omega (arith, c.loop-i.invariant.0) in
-    let all = copying_all p n c.args.table.now cs c.args.solution.now c.args.notes.now c.loop-i.on c.loop-i.solution c.loop-i.notes
-    (omega (arith, mul-le-mul_right {m = c.loop-i.on} {n = on_count n cs} p few)) (omega arith) inv in
-    record { count = all.0; cubes = all.1; cards = all.2 }
+    let l = c.args.rows.now.cubes in
+    let p = l.p in
+    let cs = c.args.rows.now.cards.now in
+    let all = on_cubes p l.n l.parts.now cs in
+    let rest = c.loop-cube.cube-iterator in
+    let count = length-on_cubes p l.n l.parts.now cs in
+    let none = on_end (left rest.a) rest.b.rest.now (⊎_elim (λ h. inl h.1.0) (λ h. inr h.1.0) c.in-None.ensures.steps) in
+    let done = copying_all p all c.args.solution.now c.args.notes.now (left rest.a) rest.b.rest.now c.loop-cube.on c.loop-cube.solution c.loop-cube.notes none
+    (rw count (omega (arith, c.requires.room, c.loop-cube.auto.solution))) (omega (arith, count, c.requires.noted, c.loop-cube.auto.notes)) c.loop-cube.invariant.0 in
+    record { count = done.0 ∙ count; cubes = done.1; cards = rw count at done.2 }

@@ -1,9 +1,11 @@
-use Rattle.std.proofs.Common.{◌≡◌, map, drop}
+use Rattle.std.proofs.Common.{◌≡◌, map, length}
 use Rattle.table.specs.Filling.{outside_verdict, made_row}
 use Rattle.table.proofs.row.check_outside.Given as goal
 
 abbrev pub invariant-loop-part : goal.invariant-loop-part
 invariant-loop-part g l =
-    let A = made_row g.P.Part.MOST l.words in
-    let U = map g.P.Part.set l.universe in
-    outside_verdict l.part (drop l.part A) (drop l.part U) ≡ outside_verdict 0 A U
+    let s = g.P.Part.set in
+    let most = g.P.Part.MOST in
+    let zip = l.part-iterator.iter in
+    (outside_verdict (length l.yielded) (made_row most zip.a.rest.now) (map s zip.b.rest.now) ≡ outside_verdict 0 (made_row most l.words) (map s l.universe))
+    × (l.part-iterator.count ≡ length l.yielded)

@@ -1,51 +1,71 @@
-use Rattle.std.proofs.Common.{◌≡◌, true, false, ◌&&◌, map, get_or, Err, sym, ap, ◌∙◌, arith}
-use mathlib.Core.Bool.{beq}
-use Rattle.cubes.specs.Areas.{cube_at}
-use Rattle.cubes.specs.Cubes.{same}
-use Rattle.cubes.proofs.Areas.{place_below, map-cube_at}
-use Rattle.faults.specs.Codes.{is_on_kind}
-use Rattle.table.specs.Cards.{is_on, blank}
-use Rattle.table.specs.Filling.{made_row}
-use Rattle.table.proofs.Verdicts.{repeat_step, repeat_end}
-use Rattle.table.proofs.row.check_repeat.Goals as goal
-use Rattle.table.proofs.row.check_repeat.Goals.{else-cards-i-via-then-cards-i+else-same_as_row, else-cards-i-via-else-cards-i}
-use Rattle.faults.specs.declared.Cause.TheVariants.{Repeat}
+use Rattle.std.proofs.Common.{rules, ◌≡◌, suc, true, false, ◌&&◌, [], ◌∷◌, ◌++◌, map, length, Err, sym, ap, ◌∙◌, ap₂, inl, inr, ⊎_elim, arith}
+use Rattle.std.specs.Bool.{beq}
 use Rattle.std.proofs.lemmas.Bool.{and_left, and_right}
+use Rattle.std.proofs.lemmas.List.{length-append}
+use Rattle.faults.specs.declared.Cause.TheVariants.{Repeat}
+use Rattle.faults.specs.Codes.{is_on_kind}
+use Rattle.cubes.specs.Areas.{cubes}
+use Rattle.cubes.specs.Cubes.{same}
+use Rattle.cubes.specs.Lists.{left}
+use Rattle.table.specs.Cards.{is_on}
+use Rattle.table.specs.Filling.{made_row, repeat_verdict}
+use Rattle.table.proofs.Beside.{rows_beside, rows_is, rows_end}
+use Rattle.table.proofs.Verdicts.{repeat_found, repeat_passed}
+use Rattle.table.proofs.row.check_repeat.Goals as goal
+use Rattle.table.proofs.row.check_repeat.Goals.{else-is_on-via-then-is_on+else-same_as_row, else-is_on-via-else-is_on}
 
-pub cube_at-requires : goal.cube_at-requires
-cube_at-requires g c = omega (arith, place_below c.loop-i.i c.args.rows c.args.p c.loop-i-test.true)
+pub loop-row-init : goal.loop-row-init
+loop-row-init g c =
+    let s = g.P.Part.set in
+    let rows = c.args.rows.now in
+    let start = c.into_iter-row-iterator.result.iter in
+    let C : left start.a ≡ cubes rows.cubes.p rows.cubes.n rows.cubes.parts.now =
+    ap (λ i. left i.iter.a) c.into_iter-row-iterator.ensures.into_iter_gives ∙ ap (λ z. left z.a) c.enumerate-row-items.ensures.source ∙ ap left c.zip.ensures.first ∙ c.iter.ensures.rest in
+    let K : start.b.rest.now ≡ rows.cards.now = search rules in (
+      ap₂ (λ D cs. repeat_verdict c.args.kind (made_row g.P.Part.MOST c.args.words.now) 0 (rows_beside s D cs)) C K
+          ∙ ap (repeat_verdict c.args.kind (made_row g.P.Part.MOST c.args.words.now) 0) (sym (rows_is s rows.cubes.p rows.cubes.n rows.cubes.parts.now rows.cards.now rows.beside)),
+      search rules,
+    )
 
 pub returns-then-same_as_row : goal.returns-then-same_as_row
 returns-then-same_as_row g c =
     let s = g.P.Part.set in
-    let i = c.loop-i.i in
-    let p = c.args.p in
-    let ts = map s c.args.table.now in
+    let kind = c.args.kind in
     let A = made_row g.P.Part.MOST c.args.words.now in
-    let k : beq (is_on (get_or c.args.cards.now i blank)) (is_on_kind c.args.kind) ≡ true =
-    ap (beq (is_on (get_or c.args.cards.now i blank))) (sym c.is_on.ensures) ∙ c.if-cards-i.true in
-    let q : same (cube_at p i ts) A ≡ true =
-    ap (λ B. same B A) (sym (ap (map s) c.cube_at.ensures ∙ map-cube_at s p i c.args.table.now)) ∙ sym c.same_as_row.ensures ∙ c.if-same_as_row.true in
-    sym (sym c.loop-i.invariant ∙ repeat_step c.args.kind A p c.args.rows i ts c.args.cards.now c.loop-i-test.true
-    ∙ rw (k, q))
+    let i = length c.loop-row.yielded in
+    let steps = c.in-Some.ensures.steps in
+    let next = c.next.new.self.iter in
+    let R = rows_beside s (left next.a) next.b.rest.now in
+    let k : beq (is_on c.in-Some.card.now) (is_on_kind kind) ≡ true = ap₂ beq (sym c.is_on.ensures) (sym c.is_on-in-loop-row.ensures) ∙ c.if-is_on.true in
+    let q : same (map s c.in-Some.cube.now) A ≡ true = sym c.same_as_row.ensures ∙ c.if-same_as_row.true in
+    ap (λ j. Err (Repeat j kind)) (steps.1 ∙ c.loop-row.invariant.1)
+    ∙ sym (ap₂ (λ C cs. repeat_verdict kind A i (rows_beside s C cs)) steps.0.0 steps.0.1 ∙ repeat_found kind A i _ R k q) ∙ c.loop-row.invariant.0
 
-pub loop-i-preserved : goal.loop-i-preserved
-loop-i-preserved g c =
+pub loop-row-preserved : goal.loop-row-preserved
+loop-row-preserved g c =
     let s = g.P.Part.set in
-    let i = c.loop-i.i in
-    let p = c.args.p in
-    let ts = map s c.args.table.now in
+    let kind = c.args.kind in
     let A = made_row g.P.Part.MOST c.args.words.now in
-    let k = beq (is_on (get_or c.args.cards.now i blank)) (is_on_kind c.args.kind) in
-    let q = same (cube_at p i ts) A in
-    let t : (k && q) ≡ false = elim c.else-cards-i.branch [
-      | else-cards-i-via-then-cards-i+else-same_as_row w ↦
-          and_right k q (ap (λ B. same B A) (sym (ap (map s) w.cube_at.ensures ∙ map-cube_at s p i c.args.table.now)) ∙ sym w.same_as_row.ensures ∙ w.if-same_as_row.false)
-      | else-cards-i-via-else-cards-i w ↦ and_left k q (ap (beq (is_on (get_or c.args.cards.now i blank))) (sym c.is_on.ensures) ∙ w.if-cards-i.false)
-    ] in
-    sym (repeat_step c.args.kind A p c.args.rows i ts c.args.cards.now c.loop-i-test.true ∙ rw t) ∙ c.loop-i.invariant
+    let Y = c.loop-row.yielded in
+    let steps = c.in-Some.ensures.steps in
+    let next = c.next.new.self.iter in
+    let R = rows_beside s (left next.a) next.b.rest.now in
+    let more : length (Y ++ (c.in-Some.row, (c.in-Some.cube, c.in-Some.card)) ∷ []) ≡ suc (length Y) = omega (arith, length-append Y ((c.in-Some.row, (c.in-Some.cube, c.in-Some.card)) ∷ [])) in
+    let k = beq (is_on c.in-Some.card.now) (is_on_kind kind) in
+    let q = same (map s c.in-Some.cube.now) A in
+    let t : (k && q) ≡ false = elim c.else-is_on.branch [
+      | else-is_on-via-then-is_on+else-same_as_row w ↦ and_right k q (sym w.same_as_row.ensures ∙ w.if-same_as_row.false)
+      | else-is_on-via-else-is_on w ↦ and_left k q (ap₂ beq (sym c.is_on.ensures) (sym c.is_on-in-loop-row.ensures) ∙ w.if-is_on.false)
+    ] in (
+      ap (λ j. repeat_verdict kind A j R) more
+          ∙ sym (ap₂ (λ C cs. repeat_verdict kind A (length Y) (rows_beside s C cs)) steps.0.0 steps.0.1 ∙ repeat_passed kind A (length Y) _ R t) ∙ c.loop-row.invariant.0,
+      omega (arith, steps.2, c.loop-row.invariant.1, more),
+    )
 
 pub returns : goal.returns
 returns g c =
     let s = g.P.Part.set in
-    sym (sym c.loop-i.invariant ∙ repeat_end c.args.kind (made_row g.P.Part.MOST c.args.words.now) c.args.p c.args.rows c.loop-i.i (map s c.args.table.now) c.args.cards.now c.loop-i-test.false)
+    let A = made_row g.P.Part.MOST c.args.words.now in
+    let rest = c.loop-row.row-iterator.iter in
+    let gone = ⊎_elim (λ h. inl h.1.0) (λ h. inr h.1.0) c.in-None.ensures.steps.0 in
+    sym (ap (repeat_verdict c.args.kind A (length c.loop-row.yielded)) (rows_end s (left rest.a) rest.b.rest.now gone)) ∙ c.loop-row.invariant.0

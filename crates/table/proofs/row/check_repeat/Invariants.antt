@@ -1,11 +1,14 @@
-use Rattle.std.proofs.Common.{◌≡◌, map, drop}
-use Rattle.table.specs.Cards.{rows_of}
+use Rattle.std.proofs.Common.{◌≡◌, length}
+use Rattle.cubes.specs.Lists.{left}
 use Rattle.table.specs.Filling.{repeat_verdict, made_row}
+use Rattle.table.specs.Lists.{rows_in}
+use Rattle.table.proofs.Beside.{rows_beside}
 use Rattle.table.proofs.row.check_repeat.Given as goal
 
-abbrev pub invariant-loop-i : goal.invariant-loop-i
-invariant-loop-i g l =
+abbrev pub invariant-loop-row : goal.invariant-loop-row
+invariant-loop-row g l =
     let s = g.P.Part.set in
-    let T = rows_of l.p l.rows (map s l.table) l.cards in
+    let rest = l.row-iterator.iter in
     let A = made_row g.P.Part.MOST l.words in
-    repeat_verdict l.kind A l.i (drop l.i T) ≡ repeat_verdict l.kind A 0 T
+    (repeat_verdict l.kind A (length l.yielded) (rows_beside s (left rest.a) rest.b.rest.now) ≡ repeat_verdict l.kind A 0 (rows_in s l.rows))
+    × (l.row-iterator.count ≡ length l.yielded)

@@ -1,4 +1,4 @@
-use Rattle.std.proofs.Common.{◌≡◌, ◌^◌, ◌<◌, ap, arith, pow_mono}
+use Rattle.std.proofs.Common.{◌≡◌, ap, arith, pow_mono}
 use lib.Count.{count_trailing_zeros}
 use Rattle.table.proofs.Lowest.{lowest_is}
 use Rattle.table.proofs.row.lowest.Goals as goal
