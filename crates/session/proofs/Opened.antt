@@ -1,7 +1,7 @@
 -- What Open leaves, in the subject's words.
 use Rattle.std.proofs.Common.{◌≡◌, ℕ, zero, suc, ◌+◌, ◌-◌, ◌*◌, ◌≤◌, Bool, true, false, cond, leb, List, ◌∷◌, map, length, get_or, take, drop, replicate, Ok, Err, Result, sym, refl, ap, ◌∙◌, subst, ap₂, add-mul, one-mul, add-one, arith}
 use Rattle.std.specs.List.{AllByRecursion}
-use Rattle.std.proofs.lemmas.List.{length-take-le, length-drop, length-map, take_all, take-map, drop-map, drop_at}
+use Rattle.std.proofs.lemmas.List.{length-take-le, length-drop, length-map, take_all, take-map, take-take, drop-map, drop_at}
 use Rattle.std.proofs.lemmas.Bool.{leb-true}
 use Rattle.cubes.specs.Areas.{cubes, flat, overlay}
 use Rattle.cubes.specs.Cubes.{Cube, Cover, Wide, rest}
@@ -13,7 +13,9 @@ use Rattle.table.specs.declared.card.Card.{Card}
 use Rattle.table.specs.Cards.{blank, is_on, rows_of, on_cubes, on_count, area_length}
 use Rattle.table.specs.Filling.{Verdict, area_verdict}
 use Rattle.table.specs.Opening.{open_verdict, off_most, off_list}
-use Rattle.table.proofs.Rows.{length-on_cubes}
+use Rattle.cubes.specs.declared.list.Cubes.{Cubes}
+use Rattle.table.specs.Lists.{off_of, off_answer}
+use Rattle.table.proofs.OnRows.{length-on_cubes}
 use Rattle.table.proofs.Verdicts.{then_both, area_passed, fits_area}
 use Rattle.faults.specs.declared.Cause.{Cause}
 use Rattle.faults.specs.declared.Cause.TheVariants.{Off}
@@ -153,3 +155,25 @@ on_few (suc n) cs = at_most (is_on (get_or cs 0 blank)) (on_count n (drop 1 cs))
     at_most : (t : Bool) (m n : ℕ) → m ≤ n → cond t 1 0 + m ≤ suc n
     at_most true m n h = omega arith
     at_most false m n h = omega arith
+
+-- ---- what the answer of the off list says
+
+refused_by : (b : Bool) (n most : ℕ) (c : Cause) → cond b (Ok n) (Err (Off most)) ≡ Err c → (b ≡ false) × (c ≡ Off most)
+refused_by true n most c e = let z : ◌≡◌ {A = ℕ} 0 1 = cc in absurd (omega arith)
+refused_by false n most c e = (refl, cc)
+
+pub off_refused : (most : ℕ) (L : Cover) (c : Cause) → off_answer most L ≡ Err c → (leb (length L) most ≡ false) × (c ≡ Off most)
+off_refused most L c e = refused_by (leb (length L) most) (length L) most c e
+
+answered_by : (b : Bool) (n most m : ℕ) → cond b (Ok n) (Err (Off most)) ≡ Ok m → (b ≡ true) × (m ≡ n)
+answered_by true n most m e = (refl, cc)
+answered_by false n most m e = let z : ◌≡◌ {A = ℕ} 0 1 = cc in absurd (omega arith)
+
+pub off_answered : (most : ℕ) (L : Cover) (m : ℕ) → off_answer most L ≡ Ok m → (leb (length L) most ≡ true) × (m ≡ length L)
+off_answered most L m e = answered_by (leb (length L) most) (length L) most m e
+
+-- the off list of the rows that are read as a list
+pub off_same : {X : Type 0} (s : X → ℕ) (p n : ℕ) (U T : List X) (l : Cubes X) → l.p ≡ p → l.n ≡ n → l.parts.now ≡ T → off_of s (take p U) l ≡ off_list p n (map s U) (map s T)
+off_same s p n U T l ep en et =
+    let u : take p (map s (take p U)) ≡ take p (map s U) = ap (take p) (sym (take-map s p U)) ∙ take-take p p (map s U) (omega arith) in
+    rw (ep, en, et) (ap (λ c. rest c (cubes p n (map s T))) u)

@@ -28,7 +28,7 @@ pub fn add<P: Part>(
     let p = t.p;
     let at = t.rows;
     let all = &words[..];
-    match add_row(p, at, kind, &all[0..p], universe, table, rows) {
+    match add_row(p, at, kind, &all[..p], universe, table, rows) {
         Ok(()) => {
             let Table { p, rows } = t;
             Ok(Table { p, rows: rows + 1 })

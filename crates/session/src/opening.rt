@@ -46,8 +46,8 @@ pub fn open<P: Part>(
     if let Err(cause) = check_open(p, n, rows, has) {
         return Err((t, cause.by(Layer::Engine)));
     }
-    let list = Cubes::new(table, p, n);
-    let list = Rows::new(list, rows);
+    let cubes = Cubes::new(table, p, n);
+    let list = Rows::new(cubes, rows);
     let off = match off_list(&universe[..p], &list.cubes, off, work, numbers) {
         Ok(off) => off,
         Err(cause) => return Err((t, cause.by(Layer::Engine))),

@@ -15,4 +15,4 @@ returns-in-Err g c =
     let s = g.P.Part.set in
     let v : begin_verdict g.P.Part.MOST c.args.p c.args.sizes.now (length (map s c.args.universe.now)) ≡ Err c.in-Err.cause =
     ap (begin_verdict g.P.Part.MOST c.args.p c.args.sizes.now) (length-map c.args.universe.now s) ∙ sym c.in-Err.ensures.answer in
-    record { answer = rw v; sets = rw v c.in-Err.ensures.sets; stays = c.in-Err.ensures.stays }
+    record { answer = rw (v, c.by.ensures); sets = rw v c.in-Err.ensures.sets; stays = c.in-Err.ensures.stays }
