@@ -102,7 +102,11 @@ impl<T> Area<T> {
     }
 
     // A number for each item.
-    fn numbers<F: FnMut(&T) -> u64>(&self, heap: Global, number: F) -> Result<Vec<u64>, AllocError>
+    fn to_numbers<F: FnMut(&T) -> u64>(
+        &self,
+        heap: Global,
+        number: F,
+    ) -> Result<Vec<u64>, AllocError>
         requires { (f : F) (item : _) → F.pre f item }
     {
         self.items.iter().map(number).collect(heap)
@@ -133,7 +137,7 @@ fn junk_number(place: usize) -> usize {
 }
 
 // A card as four numbers: kind, weight, place, and the marks as bits.
-fn numbers_of(card: &Card) -> [u64; 4] {
+fn card_to_numbers(card: &Card) -> [u64; 4] {
     [
         u64::from(card.kind),
         card.weight as u64,
@@ -144,8 +148,8 @@ fn numbers_of(card: &Card) -> [u64; 4] {
 
 impl Area<Card> {
     // Four numbers for each card.
-    fn card_numbers(&self, heap: Global) -> Result<Vec<u64>, AllocError> {
-        self.items.iter().flat_map(numbers_of).collect(heap)
+    fn cards_to_numbers(&self, heap: Global) -> Result<Vec<u64>, AllocError> {
+        self.items.iter().flat_map(card_to_numbers).collect(heap)
     }
 }
 
@@ -193,19 +197,19 @@ impl<P: Part> Areas<P> {
     }
 
     /// The sides as numbers, each with what it is called.
-    pub(crate) fn numbers(&self, heap: Global) -> Result<[(Side, Vec<u64>); 8], AllocError> {
+    pub(crate) fn to_numbers(&self, heap: Global) -> Result<[(Side, Vec<u64>); 8], AllocError> {
         let values = |part: &P| word_of(*part);
         Ok([
-            (Side::Universe, self.universe.numbers(heap, values)?),
-            (Side::Table, self.table.numbers(heap, values)?),
-            (Side::Rows, self.rows.card_numbers(heap)?),
-            (Side::Off, self.off.numbers(heap, values)?),
-            (Side::Solution, self.solution.numbers(heap, values)?),
-            (Side::Cards, self.cards.card_numbers(heap)?),
-            (Side::Work, self.work.numbers(heap, values)?),
+            (Side::Universe, self.universe.to_numbers(heap, values)?),
+            (Side::Table, self.table.to_numbers(heap, values)?),
+            (Side::Rows, self.rows.cards_to_numbers(heap)?),
+            (Side::Off, self.off.to_numbers(heap, values)?),
+            (Side::Solution, self.solution.to_numbers(heap, values)?),
+            (Side::Cards, self.cards.cards_to_numbers(heap)?),
+            (Side::Work, self.work.to_numbers(heap, values)?),
             (
                 Side::Numbers,
-                self.numbers.numbers(heap, |number| *number as u64)?,
+                self.numbers.to_numbers(heap, |number| *number as u64)?,
             ),
         ])
     }

@@ -75,7 +75,7 @@ impl Drop for Stage {
 
 impl Stage {
     // The table that is being filled; a session ends.
-    fn table(self) -> Result<Table, Refusal> {
+    fn into_table(self) -> Result<Table, Refusal> {
         match self {
             Stage::Filling(t) => Ok(t),
             Stage::Opened(s) => {
@@ -100,8 +100,8 @@ impl<P: Part> Calls<P> {
     }
 
     // The table that is being filled, taken out.
-    fn take(&mut self) -> Result<Table, Refusal> {
-        self.stage.take().ok_or(Refusal::NoTable)?.table()
+    fn table(&mut self) -> Result<Table, Refusal> {
+        self.stage.take().ok_or(Refusal::NoTable)?.into_table()
     }
 
     // Puts a table in, and says how many rows it has.
@@ -130,7 +130,7 @@ impl<P: Part> Calls<P> {
 
     // Add.
     fn add(&mut self, kind: Kind, words: &[u64; 16]) -> Result<Answer, Refusal> {
-        let t = self.take()?;
+        let t = self.table()?;
         let areas = &mut self.areas;
         match add(
             t,
@@ -147,7 +147,7 @@ impl<P: Part> Calls<P> {
 
     // Open.
     fn open(&mut self) -> Result<Answer, Refusal> {
-        let t = self.take()?;
+        let t = self.table()?;
         let areas = &mut self.areas;
         match open(
             t,

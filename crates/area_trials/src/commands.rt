@@ -20,8 +20,8 @@ pub(crate) enum Command {
     Kind { place: usize, kind: u8 },
     /// Prints a line.
     Show,
-    /// No command, which does nothing.
-    Nothing,
+    /// A letter that is no command: nothing happens.
+    Unknown,
 }
 
 impl Iterator for Items<'_> {
@@ -30,9 +30,10 @@ impl Iterator for Items<'_> {
     ghost remaining = { λ items. at_most (length items.rest.now) };
 
     fn next(&mut self) -> Option<Command> {
-        let (letter, rest) = self.rest.split_first()?;
-        self.rest = rest;
-        Some(match (*letter & 0xff) as u8 {
+        if self.rest.is_empty() {
+            return None;
+        }
+        Some(match self.byte() {
             b'B' => Command::Call(Call::Begin {
                 p: self.place(),
                 sizes: self.sixteen().map(|size| size as usize),
@@ -62,7 +63,7 @@ impl Iterator for Items<'_> {
                 kind: self.byte(),
             },
             b'S' => Command::Show,
-            _ => Command::Nothing,
+            _ => Command::Unknown,
         })
     }
 }

@@ -1,5 +1,5 @@
 //! A case as a list of numbers: each number of the line, and each letter by its code.
-ghost use Rattle.std.specs.Prelude.{◌≤◌, length};
+ghost use Rattle.std.specs.Prelude.{◌≡◌, ◌-◌, ◌≤◌, length};
 
 use std::alloc::{AllocError, Global};
 
@@ -31,7 +31,7 @@ pub(crate) struct Items<'a> {
 impl Items<'_> {
     /// The next one as a number, 0 where there is none.
     pub(crate) fn number(&mut self) -> u64
-        ensures { length self.new.rest.now ≤ length self.old.rest.now }
+        ensures { length self.new.rest.now ≡ length self.old.rest.now - 1 }
     {
         let Some((first, rest)) = self.rest.split_first() else {
             return 0;
@@ -42,14 +42,14 @@ impl Items<'_> {
 
     /// The next one as a length or a place.
     pub(crate) fn place(&mut self) -> usize
-        ensures { length self.new.rest.now ≤ length self.old.rest.now }
+        ensures { length self.new.rest.now ≡ length self.old.rest.now - 1 }
     {
         self.number() as usize
     }
 
     /// The next one as a byte.
     pub(crate) fn byte(&mut self) -> u8
-        ensures { length self.new.rest.now ≤ length self.old.rest.now }
+        ensures { length self.new.rest.now ≡ length self.old.rest.now - 1 }
     {
         (self.number() & 0xff) as u8
     }

@@ -6,6 +6,7 @@ use crate::items::Items;
 use crate::shown::Shown;
 use parts::Part;
 use std::alloc::AllocError;
+use std::array;
 use std::fmt::Write;
 
 // A case that runs: its number, how sides are printed, the calls, the sides when the last line was printed, and the next line so far.
@@ -30,7 +31,7 @@ impl<P: Part> Run<'_, P> {
 
     // Prints the line with the sides that have changed, and begins the next.
     fn show(&mut self) -> anyhow::Result<()> {
-        let now = self.calls.areas.numbers(self.rt.alloc())?;
+        let now = self.calls.areas.to_numbers(self.rt.alloc())?;
         for ((side, new), (_, old)) in now.iter().zip(&self.seen) {
             if old != new {
                 let shown = Shown {
@@ -64,7 +65,7 @@ impl<P: Part> Run<'_, P> {
             }
             Command::Kind { place, kind } => areas.rows.change(place, |card| card.kind = kind),
             Command::Show => self.show()?,
-            Command::Nothing => {}
+            Command::Unknown => {}
         }
         Ok(())
     }
@@ -78,13 +79,13 @@ pub(crate) fn run_case<P: Part>(
 ) -> anyhow::Result<()> {
     let heap = rt.alloc();
     let by_sum = items.number() == 1;
-    let lengths = [0; 8].map(|_| items.place());
+    let lengths = array::from_fn(|_| items.place());
     let areas: Areas<P> = Areas::new(heap, lengths)?;
     let mut run = Run {
         rt,
         number,
         by_sum,
-        seen: areas.numbers(heap)?,
+        seen: areas.to_numbers(heap)?,
         calls: Calls::new(areas),
         line: String::new(heap),
     };
