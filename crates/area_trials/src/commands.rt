@@ -24,44 +24,63 @@ pub(crate) enum Command {
     Unknown,
 }
 
+// An item as a letter or a kind.
+fn byte_of(item: u64) -> u8 {
+    (item & 0xff) as u8
+}
+
 impl Iterator for Items<'_> {
     type Item = Command;
 
     ghost remaining = { λ items. at_most (length items.rest.now) };
 
     fn next(&mut self) -> Option<Command> {
-        if self.rest.is_empty() {
-            return None;
-        }
-        Some(match self.byte() {
-            b'B' => Command::Call(Call::Begin {
-                p: self.place(),
-                sizes: self.sixteen().map(|size| size as usize),
-            }),
-            b'A' => Command::Call(Call::Add {
-                kind: match self.number() {
-                    0 => Kind::On,
-                    _ => Kind::Dc,
-                },
-                words: self.sixteen(),
-            }),
+        let (letter, rest) = self.rest.split_first()?;
+        self.rest = rest;
+        Some(match byte_of(*letter) {
+            b'B' => {
+                let [p, n] = self.numbers::<2>();
+                Command::Call(Call::Begin {
+                    p: p as usize,
+                    sizes: self.first(n as usize).map(|size| size as usize),
+                })
+            }
+            b'A' => {
+                let [kind, n] = self.numbers::<2>();
+                Command::Call(Call::Add {
+                    kind: if kind == 0 { Kind::On } else { Kind::Dc },
+                    words: self.first(n as usize),
+                })
+            }
             b'O' => Command::Call(Call::Open),
-            b'L' => Command::Lend {
-                side: Side::from(self.number()),
-                n: self.place(),
-            },
-            b'U' => Command::Universe {
-                place: self.place(),
-                word: self.number(),
-            },
-            b'T' => Command::Table {
-                place: self.place(),
-                word: self.number(),
-            },
-            b'C' => Command::Kind {
-                place: self.place(),
-                kind: self.byte(),
-            },
+            b'L' => {
+                let [side, n] = self.numbers::<2>();
+                Command::Lend {
+                    side: Side::from(side),
+                    n: n as usize,
+                }
+            }
+            b'U' => {
+                let [place, word] = self.numbers::<2>();
+                Command::Universe {
+                    place: place as usize,
+                    word,
+                }
+            }
+            b'T' => {
+                let [place, word] = self.numbers::<2>();
+                Command::Table {
+                    place: place as usize,
+                    word,
+                }
+            }
+            b'C' => {
+                let [place, kind] = self.numbers::<2>();
+                Command::Kind {
+                    place: place as usize,
+                    kind: byte_of(kind),
+                }
+            }
             b'S' => Command::Show,
             _ => Command::Unknown,
         })

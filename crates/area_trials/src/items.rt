@@ -1,9 +1,9 @@
 //! A case as a list of numbers: each number of the line, and each letter by its code.
-ghost use Rattle.std.specs.Prelude.{◌≡◌, ◌-◌, ◌≤◌, length};
+ghost use Rattle.std.specs.Prelude.{◌≤◌, length};
 
 use std::alloc::{AllocError, Global};
 
-// The digits of a word as one number, which wraps.
+// The digits of a word as one number. It wraps, which `parse` refuses.
 fn number_of(word: &[u8]) -> Option<u64> {
     word.iter()
         .filter_map(|byte| char::from(*byte).to_digit(10))
@@ -29,40 +29,22 @@ pub(crate) struct Items<'a> {
 }
 
 impl Items<'_> {
-    /// The next one as a number, 0 where there is none.
-    pub(crate) fn number(&mut self) -> u64
-        ensures { length self.new.rest.now ≡ length self.old.rest.now - 1 }
-    {
-        let Some((first, rest)) = self.rest.split_first() else {
-            return 0;
-        };
-        self.rest = rest;
-        *first
-    }
-
-    /// The next one as a length or a place.
-    pub(crate) fn place(&mut self) -> usize
-        ensures { length self.new.rest.now ≡ length self.old.rest.now - 1 }
-    {
-        self.number() as usize
-    }
-
-    /// The next one as a byte.
-    pub(crate) fn byte(&mut self) -> u8
-        ensures { length self.new.rest.now ≡ length self.old.rest.now - 1 }
-    {
-        (self.number() & 0xff) as u8
-    }
-
-    /// Sixteen numbers: how many are written, then those; the others are 0.
-    pub(crate) fn sixteen(&mut self) -> [u64; 16]
+    /// N numbers: the next items, `n` of them at most; the others are 0.
+    pub(crate) fn first<const N: usize>(&mut self, n: usize) -> [u64; N]
         ensures { length self.new.rest.now ≤ length self.old.rest.now }
     {
-        let written = self.place().min(16).min(self.rest.len());
-        let (first, rest) = self.rest.split_at(written);
+        let n = n.min(N).min(self.rest.len());
+        let (first, rest) = self.rest.split_at(n);
         self.rest = rest;
-        let mut all = [0; 16];
-        all[..written].copy_from_slice(first);
-        all
+        let mut numbers = [0; N];
+        numbers[..n].copy_from_slice(first);
+        numbers
+    }
+
+    /// The next N items, 0 for each that is not there.
+    pub(crate) fn numbers<const N: usize>(&mut self) -> [u64; N]
+        ensures { length self.new.rest.now ≤ length self.old.rest.now }
+    {
+        self.first(N)
     }
 }

@@ -30,14 +30,16 @@ use std::io::{BufRead, BufReader};
 fn run_line(rt: &HostRuntime, number: u64, line: &str) -> anyhow::Result<()> {
     let all = items_of(rt.alloc(), line.as_bytes())?;
     let mut items = Items { rest: &all };
-    match items.number() {
-        0 => run_case::<Word>(rt, number, items),
-        _ => run_case::<Ternary>(rt, number, items),
+    let [kind, sums] = items.numbers::<2>();
+    match kind {
+        0 => run_case::<Word>(rt, number, sums == 1, items),
+        _ => run_case::<Ternary>(rt, number, sums == 1, items),
     }
 }
 
 fn main(rt: HostRuntime) -> anyhow::Result<()> {
-    for (number, line) in (1..).zip(BufReader::new(rt.alloc(), rt.stdin())?.lines(rt.alloc())) {
+    let lines = BufReader::new(rt.alloc(), rt.stdin())?.lines(rt.alloc());
+    for (number, line) in (1..).zip(lines) {
         run_line(&rt, number, line?.as_str())?;
     }
     Ok(())

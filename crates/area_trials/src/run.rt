@@ -6,17 +6,20 @@ use crate::items::Items;
 use crate::shown::Shown;
 use parts::Part;
 use std::alloc::AllocError;
-use std::array;
 use std::fmt::Write;
 
-// A case that runs: its number, how sides are printed, the calls, the sides when the last line was printed, and the next line so far.
+// A case that runs.
 #[derive(Drop)]
 struct Run<'a, P> {
     rt: &'a HostRuntime,
+    // The number of the case.
     number: u64,
+    // Whether sides are printed by their sums.
     by_sum: bool,
     calls: Calls<P>,
+    // The sides as they were when the last line was printed.
     seen: [(Side, Vec<u64>); 8],
+    // The next line, so far.
     line: String,
 }
 
@@ -71,15 +74,15 @@ impl<P: Part> Run<'_, P> {
     }
 }
 
-/// Runs the case that the items say.
+/// Runs the case that the items say from the lengths on.
 pub(crate) fn run_case<P: Part>(
     rt: &HostRuntime,
     number: u64,
+    by_sum: bool,
     mut items: Items,
 ) -> anyhow::Result<()> {
     let heap = rt.alloc();
-    let by_sum = items.number() == 1;
-    let lengths = array::from_fn(|_| items.place());
+    let lengths = items.numbers().map(|length| length as usize);
     let areas: Areas<P> = Areas::new(heap, lengths)?;
     let mut run = Run {
         rt,

@@ -12,7 +12,7 @@ fn sum_of(numbers: &[u64]) -> u64 {
 }
 
 /// A side as numbers, to be printed in full or by their sum.
-#[derive(Drop)]
+#[derive(Clone, Copy)]
 pub(crate) struct Shown<'a> {
     pub(crate) side: Side,
     pub(crate) numbers: &'a [u64],

@@ -11,12 +11,11 @@ use std::io::{BufRead, BufReader};
 // What is wrong with a case.
 #[derive(Drop)]
 enum Flaw<'a> {
-    NoCase {
-        case: &'a str,
-    },
-    NoSheet {
-        digits: &'a str,
-    },
+    // It has no `|`.
+    NoCase(&'a str),
+    // What stands before it are no digits of bytes.
+    NoSheet(&'a str),
+    // The sheet prints other lines.
     Prints {
         digits: &'a str,
         found: String,
@@ -27,8 +26,8 @@ enum Flaw<'a> {
 impl fmt::Display for Flaw<'_> {
     fn fmt<W: fmt::Write>(&self, f: &mut fmt::Formatter<W>) -> fmt::Result {
         match self {
-            Flaw::NoCase { case } => write!(f, "no case: {case}"),
-            Flaw::NoSheet { digits } => write!(f, "no sheet: {digits}"),
+            Flaw::NoCase(case) => write!(f, "no case: {case}"),
+            Flaw::NoSheet(digits) => write!(f, "no sheet: {digits}"),
             Flaw::Prints {
                 digits,
                 found,
@@ -75,12 +74,12 @@ fn lines_of(heap: Global, joined: &str) -> Result<String, AllocError> {
 }
 
 // Runs a case: what is wrong with it, if anything is.
-fn flaw_of<'a>(heap: Global, case: &'a str) -> Result<Option<Flaw<'a>>, AllocError> {
+fn flaw_of(heap: Global, case: &str) -> Result<Option<Flaw<'_>>, AllocError> {
     let Some((digits, expected)) = case.split_once('|') else {
-        return Ok(Some(Flaw::NoCase { case }));
+        return Ok(Some(Flaw::NoCase(case)));
     };
     let Some(bytes) = bytes_of(heap, digits)? else {
-        return Ok(Some(Flaw::NoSheet { digits }));
+        return Ok(Some(Flaw::NoSheet(digits)));
     };
     let found = sheet::lines(heap, &bytes)?;
     let wanted = lines_of(heap, expected)?;
@@ -97,7 +96,8 @@ fn flaw_of<'a>(heap: Global, case: &'a str) -> Result<Option<Flaw<'a>>, AllocErr
 fn main(rt: HostRuntime) -> anyhow::Result<()> {
     let mut cases: u64 = 0;
     let mut wrong: u64 = 0;
-    for (number, line) in (1..).zip(BufReader::new(rt.alloc(), rt.stdin())?.lines(rt.alloc())) {
+    let lines = BufReader::new(rt.alloc(), rt.stdin())?.lines(rt.alloc());
+    for (number, line) in (1..).zip(lines) {
         let line = line?;
         cases = number;
         if let Some(flaw) = flaw_of(rt.alloc(), line.as_str())? {
