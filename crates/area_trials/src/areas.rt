@@ -20,7 +20,7 @@ pub(crate) enum Side {
 }
 
 impl From<u64> for Side {
-    // Any number past the last side stands for the last.
+    // The side of a number; each past the last stands for the last.
     fn from(number: u64) -> Side {
         match number {
             0 => Side::Universe,
@@ -196,7 +196,7 @@ impl<P: Part> Areas<P> {
         }
     }
 
-    /// The sides as numbers, each with what it is called.
+    /// Each side as numbers.
     pub(crate) fn to_numbers(&self, heap: Global) -> Result<[(Side, Vec<u64>); 8], AllocError> {
         let values = |part: &P| word_of(*part);
         Ok([

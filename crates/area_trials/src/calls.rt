@@ -54,7 +54,7 @@ impl fmt::Display for Refusal {
     }
 }
 
-// What stands between two calls. It may be let go, which ends it.
+// What stands between two calls. Unlike a table or a session it may be let go: it is closed then.
 enum Stage {
     Filling(Table),
     Opened(Open),

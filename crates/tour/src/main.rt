@@ -12,6 +12,7 @@ use table::card::{Card, Kind};
 
 const PARTS: usize = 4;
 
+// The size of each part. The library's calls take sixteen numbers, and read the first ones.
 const SIZES: [usize; 16] = [3, 2, 2, 2, 0, 0, 0, 0, 0, 0, 0, 0, 0, 0, 0, 0];
 
 // The rows: a kind, and a word for each part.
@@ -99,7 +100,7 @@ impl Areas {
     // Prints the rows and the off list.
     fn tell(&self, rt: &HostRuntime, s: &Open) -> anyhow::Result<()> {
         println!(rt; "the table, its parts being range, track, light and label:")?;
-        let (rows, _) = self.table.as_chunks();
+        let (rows, _) = self.table.as_chunks::<PARTS>();
         for ((kind, _), row) in ROWS.iter().zip(rows) {
             let word = match kind {
                 Kind::On => "ON ",
@@ -107,20 +108,18 @@ impl Areas {
             };
             self.show(rt, word, row)?;
         }
-        println!(rt;
-            "opened: {} ON rows, {} off cubes:",
-            s.cubes(),
-            s.off_cubes()
-        )?;
-        let (off, _) = self.off.as_chunks();
-        for cube in off.iter().take(s.off_cubes()) {
+        let on = s.cubes();
+        let offs = s.off_cubes();
+        println!(rt; "opened: {on} ON rows, {offs} off cubes:")?;
+        let (off, _) = self.off.as_chunks::<PARTS>();
+        for cube in off.iter().take(offs) {
             self.show(rt, "off", cube)?;
         }
         Ok(())
     }
 }
 
-// A refusal, when the table that comes back with it is ended.
+// Ends the table that comes back with a refusal, which is what is left.
 fn ended((t, fault): (Table, Fault)) -> Fault {
     t.close();
     fault
@@ -136,7 +135,7 @@ fn main(rt: HostRuntime) -> anyhow::Result<()> {
         }
         Err(fault) => {
             let line = fault.line(rt.alloc(), 0)?;
-            print!(&rt; "{line}")?;
+            print!(rt; "{line}")?;
             Ok(())
         }
     }
