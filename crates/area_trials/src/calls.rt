@@ -3,131 +3,179 @@ use crate::areas::Areas;
 use faults::Fault;
 use parts::Part;
 use session::{Open, Table, add, begin, open};
+use std::fmt;
 use table::card::Kind;
 
-/// What stands between two calls.
-pub(crate) enum Stage {
-    Nothing,
+/// A call of the library.
+pub(crate) enum Call {
+    Begin { p: usize, sizes: [usize; 16] },
+    Add { kind: Kind, words: [u64; 16] },
+    Open,
+}
+
+/// What a call answers.
+#[derive(Clone, Copy)]
+pub(crate) enum Answer {
+    Begun { rows: usize },
+    Added { rows: usize },
+    Opened { cubes: usize, off: usize },
+}
+
+/// Why a call does nothing.
+#[derive(Clone, Copy)]
+pub(crate) enum Refusal {
+    /// No table is being filled.
+    NoTable,
+    /// The library refuses; the table that it hands back has so many rows.
+    Refused { fault: Fault, rows: usize },
+}
+
+impl fmt::Display for Answer {
+    fn fmt<W: fmt::Write>(&self, f: &mut fmt::Formatter<W>) -> fmt::Result {
+        match self {
+            Answer::Begun { rows } => write!(f, "begun {rows}"),
+            Answer::Added { rows } => write!(f, "added {rows}"),
+            Answer::Opened { cubes, off } => write!(f, "opened {cubes} {off}"),
+        }
+    }
+}
+
+impl fmt::Display for Refusal {
+    fn fmt<W: fmt::Write>(&self, f: &mut fmt::Formatter<W>) -> fmt::Result {
+        match self {
+            Refusal::NoTable => write!(f, "no table"),
+            Refusal::Refused { fault, rows } => {
+                let Fault { layer, cause } = *fault;
+                let number = cause.number();
+                let (first, second) = cause.places();
+                write!(f, "refused {number} {layer} {first} {second} with {rows}")
+            }
+        }
+    }
+}
+
+// What stands between two calls. Unlike a table or a session it may be let go: it is closed then.
+enum Stage {
     Filling(Table),
     Opened(Open),
 }
 
-/// What a call answers; a refusal also with the rows of the table that is handed back.
-#[derive(Clone, Copy)]
-pub(crate) enum Said {
-    Nothing,
-    NoTable,
-    Begun { rows: usize },
-    Added { rows: usize },
-    Opened { cubes: usize, off: usize },
-    Refused { fault: Fault, rows: usize },
+impl Drop for Stage {
+    fn drop(self) {
+        match self {
+            Stage::Filling(t) => {
+                t.close();
+            }
+            Stage::Opened(s) => {
+                s.close();
+            }
+        }
+    }
 }
 
 impl Stage {
-    /// Ends what it holds.
-    pub(crate) fn close(self) {
+    // The table that is being filled; a session ends.
+    fn into_table(self) -> Result<Table, Refusal> {
         match self {
-            Stage::Nothing => {}
-            Stage::Filling(table) => {
-                let _ = table.close();
-            }
-            Stage::Opened(open) => {
-                let _ = open.close();
+            Stage::Filling(t) => Ok(t),
+            Stage::Opened(s) => {
+                s.close();
+                Err(Refusal::NoTable)
             }
         }
     }
 }
 
-// The first items of a side.
-fn first<T>(side: &[T], n: usize) -> &[T] {
-    if n < side.len() { &side[0..n] } else { side }
+/// The areas, and what stands between two calls on them.
+#[derive(Drop)]
+pub(crate) struct Calls<P> {
+    pub(crate) areas: Areas<P>,
+    stage: Option<Stage>,
 }
 
-// The first items of a side, to be written.
-fn first_mut<T>(side: &mut [T], n: usize) -> &mut [T] {
-    if n < side.len() {
-        &mut side[0..n]
-    } else {
-        side
+impl<P: Part> Calls<P> {
+    /// No call is made yet.
+    pub(crate) fn new(areas: Areas<P>) -> Calls<P> {
+        Calls { areas, stage: None }
     }
-}
 
-// The table that is handed back, and the refusal.
-fn refused(back: (Table, Fault)) -> (Stage, Said) {
-    let (t, fault) = back;
-    let rows = t.rows();
-    (Stage::Filling(t), Said::Refused { fault, rows })
-}
-
-/// Begin.
-pub(crate) fn do_begin<P: Part>(
-    areas: &mut Areas<P>,
-    p: usize,
-    sizes: &[usize; 16],
-) -> (Stage, Said) {
-    let n = areas.lent;
-    match begin(p, sizes, first_mut(&mut areas.universe, n.universe)) {
-        Ok(t) => {
-            let rows = t.rows();
-            (Stage::Filling(t), Said::Begun { rows })
-        }
-        Err(fault) => (Stage::Nothing, Said::Refused { fault, rows: 0 }),
+    // The table that is being filled, taken out.
+    fn table(&mut self) -> Result<Table, Refusal> {
+        self.stage.take().ok_or(Refusal::NoTable)?.into_table()
     }
-}
 
-/// Add.
-pub(crate) fn do_add<P: Part>(
-    areas: &mut Areas<P>,
-    stage: Stage,
-    kind: Kind,
-    words: &[u64; 16],
-) -> (Stage, Said) {
-    let n = areas.lent;
-    let Stage::Filling(t) = stage else {
-        stage.close();
-        return (Stage::Nothing, Said::NoTable);
-    };
-    let table = first_mut(&mut areas.table, n.table);
-    let rows = first_mut(&mut areas.rows, n.rows);
-    match add(
-        t,
-        kind,
-        words,
-        first(&areas.universe, n.universe),
-        table,
-        rows,
-    ) {
-        Ok(t) => {
-            let rows = t.rows();
-            (Stage::Filling(t), Said::Added { rows })
-        }
-        Err(back) => refused(back),
+    // Puts a table in, and says how many rows it has.
+    fn keep(&mut self, t: Table) -> usize {
+        let rows = t.rows();
+        self.stage = Some(Stage::Filling(t));
+        rows
     }
-}
 
-/// Open.
-pub(crate) fn do_open<P: Part>(areas: &mut Areas<P>, stage: Stage) -> (Stage, Said) {
-    let n = areas.lent;
-    let Stage::Filling(t) = stage else {
-        stage.close();
-        return (Stage::Nothing, Said::NoTable);
-    };
-    let universe = first(&areas.universe, n.universe);
-    let table = first(&areas.table, n.table);
-    let rows = first(&areas.rows, n.rows);
-    let off = first_mut(&mut areas.off, n.off);
-    let solution = first_mut(&mut areas.solution, n.solution);
-    let cards = first_mut(&mut areas.cards, n.cards);
-    let work = first_mut(&mut areas.work, n.work);
-    let numbers = first_mut(&mut areas.numbers, n.numbers);
-    match open(
-        t, universe, table, rows, off, solution, cards, work, numbers,
-    ) {
-        Ok(o) => {
-            let cubes = o.cubes();
-            let off = o.off_cubes();
-            (Stage::Opened(o), Said::Opened { cubes, off })
+    // The refusal that comes with a table, which is put in again.
+    fn refuse(&mut self, (t, fault): (Table, Fault)) -> Refusal {
+        Refusal::Refused {
+            fault,
+            rows: self.keep(t),
         }
-        Err(back) => refused(back),
+    }
+
+    // Begin.
+    fn begin(&mut self, p: usize, sizes: &[usize; 16]) -> Result<Answer, Refusal> {
+        self.stage = None;
+        match begin(p, sizes, self.areas.universe.lent_mut()) {
+            Ok(t) => Ok(Answer::Begun { rows: self.keep(t) }),
+            Err(fault) => Err(Refusal::Refused { fault, rows: 0 }),
+        }
+    }
+
+    // Add.
+    fn add(&mut self, kind: Kind, words: &[u64; 16]) -> Result<Answer, Refusal> {
+        let t = self.table()?;
+        let areas = &mut self.areas;
+        match add(
+            t,
+            kind,
+            words,
+            areas.universe.lent(),
+            areas.table.lent_mut(),
+            areas.rows.lent_mut(),
+        ) {
+            Ok(t) => Ok(Answer::Added { rows: self.keep(t) }),
+            Err(back) => Err(self.refuse(back)),
+        }
+    }
+
+    // Open.
+    fn open(&mut self) -> Result<Answer, Refusal> {
+        let t = self.table()?;
+        let areas = &mut self.areas;
+        match open(
+            t,
+            areas.universe.lent(),
+            areas.table.lent(),
+            areas.rows.lent(),
+            areas.off.lent_mut(),
+            areas.solution.lent_mut(),
+            areas.cards.lent_mut(),
+            areas.work.lent_mut(),
+            areas.numbers.lent_mut(),
+        ) {
+            Ok(s) => {
+                let cubes = s.cubes();
+                let off = s.off_cubes();
+                self.stage = Some(Stage::Opened(s));
+                Ok(Answer::Opened { cubes, off })
+            }
+            Err(back) => Err(self.refuse(back)),
+        }
+    }
+
+    /// Makes a call.
+    pub(crate) fn make(&mut self, call: Call) -> Result<Answer, Refusal> {
+        match call {
+            Call::Begin { p, sizes } => self.begin(p, &sizes),
+            Call::Add { kind, words } => self.add(kind, &words),
+            Call::Open => self.open(),
+        }
     }
 }

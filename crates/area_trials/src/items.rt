@@ -1,31 +1,23 @@
 //! A case as a list of numbers: each number of the line, and each letter by its code.
+ghost use Rattle.std.specs.Prelude.{◌≤◌, length};
+
 use std::alloc::{AllocError, Global};
 
-/// The items of a line.
+// The digits of a word as one number. It wraps, which `parse` refuses.
+fn number_of(word: &[u8]) -> Option<u64> {
+    word.iter()
+        .filter_map(|byte| char::from(*byte).to_digit(10))
+        .map(u64::from)
+        .reduce(|number, digit| number.wrapping_mul(10).wrapping_add(digit))
+}
+
+/// The items of a line: of each word its letters, and then its number.
 pub(crate) fn items_of(heap: Global, line: &[u8]) -> Result<Vec<u64>, AllocError> {
     let mut items = Vec::new(heap);
-    let mut number: u64 = 0;
-    let mut within = false;
-    for byte in line {
-        match *byte {
-            b'0'..=b'9' => {
-                number = number
-                    .wrapping_mul(10)
-                    .wrapping_add(u64::from(*byte - b'0'));
-                within = true;
-            }
-            b' ' => {
-                if within {
-                    items.push(number)?;
-                }
-                number = 0;
-                within = false;
-            }
-            letter => items.push(u64::from(letter))?,
-        }
-    }
-    if within {
-        items.push(number)?;
+    for word in line.split(|byte| *byte == b' ') {
+        let letters = word.iter().filter(|byte| !byte.is_ascii_digit());
+        items.extend(letters.map(|byte| u64::from(*byte)))?;
+        items.extend(number_of(word))?;
     }
     Ok(items)
 }
@@ -33,51 +25,26 @@ pub(crate) fn items_of(heap: Global, line: &[u8]) -> Result<Vec<u64>, AllocError
 /// The items that are still to be read.
 #[derive(Drop)]
 pub(crate) struct Items<'a> {
-    rest: &'a [u64],
+    pub(crate) rest: &'a [u64],
 }
 
-impl<'a> Items<'a> {
-    /// All of them.
-    pub(crate) fn new(rest: &'a [u64]) -> Items<'a> {
-        Items { rest }
+impl Items<'_> {
+    /// N numbers: the next items, `n` of them at most; the others are 0.
+    pub(crate) fn first<const N: usize>(&mut self, n: usize) -> [u64; N]
+        ensures { length self.new.rest.now ≤ length self.old.rest.now }
+    {
+        let n = n.min(N).min(self.rest.len());
+        let (first, rest) = self.rest.split_at(n);
+        self.rest = rest;
+        let mut numbers = [0; N];
+        numbers[..n].copy_from_slice(first);
+        numbers
     }
 
-    /// The next one, if there is one.
-    pub(crate) fn next(&mut self) -> Option<u64> {
-        match self.rest {
-            [] => None,
-            [first, rest @ ..] => {
-                let first = *first;
-                self.rest = rest;
-                Some(first)
-            }
-        }
-    }
-
-    /// The next one as a number, 0 where there is none.
-    pub(crate) fn number(&mut self) -> u64 {
-        self.next().unwrap_or(0)
-    }
-
-    /// The next one as a length or a place.
-    pub(crate) fn place(&mut self) -> usize {
-        self.number() as usize
-    }
-
-    /// The next one as a byte.
-    pub(crate) fn byte(&mut self) -> u8 {
-        (self.number() & 0xff) as u8
-    }
-
-    /// Sixteen numbers: how many are written, then those; the others are 0.
-    pub(crate) fn sixteen(&mut self) -> [u64; 16] {
-        let written = self.place();
-        let mut all = [0; 16];
-        for k in 0..16 {
-            if k < written {
-                all[k] = self.number();
-            }
-        }
-        all
+    /// The next N items, 0 for each that is not there.
+    pub(crate) fn numbers<const N: usize>(&mut self) -> [u64; N]
+        ensures { length self.new.rest.now ≤ length self.old.rest.now }
+    {
+        self.first(N)
     }
 }

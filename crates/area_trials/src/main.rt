@@ -16,6 +16,7 @@
 
 mod areas;
 mod calls;
+mod commands;
 mod items;
 mod run;
 mod shown;
@@ -26,21 +27,20 @@ use run::run_case;
 use std::io::{BufRead, BufReader};
 
 // Runs the case of a line.
-fn run_line(rt: &HostRuntime, number: u64, line: &[u8]) -> anyhow::Result<()> {
-    let all = items_of(rt.alloc(), line)?;
-    let mut items = Items::new(&all);
-    match items.number() {
-        0 => run_case::<Word>(rt, number, &mut items, all.len()),
-        _ => run_case::<Ternary>(rt, number, &mut items, all.len()),
+fn run_line(rt: &HostRuntime, number: u64, line: &str) -> anyhow::Result<()> {
+    let all = items_of(rt.alloc(), line.as_bytes())?;
+    let mut items = Items { rest: &all };
+    let [kind, sums] = items.numbers::<2>();
+    match kind {
+        0 => run_case::<Word>(rt, number, sums == 1, items),
+        _ => run_case::<Ternary>(rt, number, sums == 1, items),
     }
 }
 
 fn main(rt: HostRuntime) -> anyhow::Result<()> {
-    let mut number: u64 = 0;
-    for line in BufReader::new(rt.alloc(), rt.stdin())?.lines(rt.alloc()) {
-        let line = line?;
-        number = number.wrapping_add(1);
-        run_line(&rt, number, line.as_str().as_bytes())?;
+    let lines = BufReader::new(rt.alloc(), rt.stdin())?.lines(rt.alloc());
+    for (number, line) in (1..).zip(lines) {
+        run_line(&rt, number, line?.as_str())?;
     }
     Ok(())
 }

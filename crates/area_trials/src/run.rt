@@ -1,150 +1,99 @@
 //! Runs a case, command by command.
-use crate::areas::{Areas, Lengths};
-use crate::calls::{Said, Stage, do_add, do_begin, do_open};
+use crate::areas::{Areas, Side};
+use crate::calls::{Answer, Calls, Refusal};
+use crate::commands::Command;
 use crate::items::Items;
-use crate::shown::{Seen, put_answer, put_changes};
+use crate::shown::Shown;
 use parts::Part;
-use table::card::Kind;
+use std::alloc::AllocError;
+use std::fmt::Write;
 
-// Numbers as sizes.
-fn sizes_of(numbers: [u64; 16]) -> [usize; 16] {
-    let mut sizes = [0; 16];
-    for k in 0..16 {
-        sizes[k] = numbers[k] as usize;
-    }
-    sizes
-}
-
-// The lengths of the sides, in their order.
-fn lengths(items: &mut Items) -> Lengths {
-    let universe = items.place();
-    let table = items.place();
-    let rows = items.place();
-    let off = items.place();
-    let solution = items.place();
-    let cards = items.place();
-    let work = items.place();
-    let numbers = items.place();
-    Lengths {
-        universe,
-        table,
-        rows,
-        off,
-        solution,
-        cards,
-        work,
-        numbers,
-    }
-}
-
-// A command that is no call.
-fn prepare<P: Part>(areas: &mut Areas<P>, letter: u8, items: &mut Items) {
-    match letter {
-        b'L' => {
-            let side = items.number();
-            areas.lend(side, items.place());
-        }
-        b'U' => {
-            let place = items.place();
-            areas.poke_universe(place, items.number());
-        }
-        b'T' => {
-            let place = items.place();
-            areas.poke_table(place, items.number());
-        }
-        b'C' => {
-            let place = items.place();
-            areas.poke_kind(place, items.byte());
-        }
-        _ => {}
-    }
-}
-
-// A command, but for what it prints.
-fn obey<P: Part>(
-    areas: &mut Areas<P>,
-    stage: Stage,
-    letter: u8,
-    items: &mut Items,
-) -> (Stage, Said) {
-    match letter {
-        b'B' => {
-            stage.close();
-            let p = items.place();
-            do_begin(areas, p, &sizes_of(items.sixteen()))
-        }
-        b'A' => {
-            let kind = if items.number() == 0 {
-                Kind::On
-            } else {
-                Kind::Dc
-            };
-            do_add(areas, stage, kind, &items.sixteen())
-        }
-        b'O' => do_open(areas, stage),
-        _ => {
-            prepare(areas, letter, items);
-            (stage, Said::Nothing)
-        }
-    }
-}
-
-// Prints the line so far with the sides that have changed, and begins the next.
-fn show<P: Part>(
-    rt: &HostRuntime,
+// A case that runs.
+#[derive(Drop)]
+struct Run<'a, P> {
+    rt: &'a HostRuntime,
+    // The number of the case.
     number: u64,
-    out: &mut String,
-    areas: &Areas<P>,
-    seen: &mut Seen,
-    sums: bool,
-) -> anyhow::Result<()> {
-    let now = Seen::new(rt.alloc(), areas)?;
-    put_changes(rt.alloc(), out, seen, &now, sums)?;
-    println!(rt; "{number}:{out}")?;
-    out.clear();
-    *seen = now;
-    Ok(())
+    // Whether sides are printed by their sums.
+    by_sum: bool,
+    calls: Calls<P>,
+    // The sides as they were when the last line was printed.
+    seen: [(Side, Vec<u64>); 8],
+    // The next line, so far.
+    line: String,
 }
 
-// What a command prints.
-fn tell<P: Part>(
-    rt: &HostRuntime,
-    number: u64,
-    out: &mut String,
-    letter: u8,
-    said: Said,
-    areas: &Areas<P>,
-    seen: &mut Seen,
-    sums: bool,
-) -> anyhow::Result<()> {
-    match letter {
-        b'S' => show(rt, number, out, areas, seen, sums),
-        _ => Ok(put_answer(rt.alloc(), out, said)?),
+impl<P: Part> Run<'_, P> {
+    // Writes what a call answers.
+    fn say(&mut self, said: Result<Answer, Refusal>) -> Result<(), AllocError> {
+        match said {
+            Ok(answer) => write!(self.line, " {answer}"),
+            Err(refusal) => write!(self.line, " {refusal}"),
+        }
+    }
+
+    // Prints the line with the sides that have changed, and begins the next.
+    fn show(&mut self) -> anyhow::Result<()> {
+        let now = self.calls.areas.to_numbers(self.rt.alloc())?;
+        for ((side, new), (_, old)) in now.iter().zip(&self.seen) {
+            if old != new {
+                let shown = Shown {
+                    side: *side,
+                    numbers: new,
+                    by_sum: self.by_sum,
+                };
+                write!(self.line, " | {shown}")?;
+            }
+        }
+        println!(self.rt; "{}:{}", self.number, self.line)?;
+        self.line.clear();
+        self.seen = now;
+        Ok(())
+    }
+
+    // Obeys a command.
+    fn obey(&mut self, command: Command) -> anyhow::Result<()> {
+        let areas = &mut self.calls.areas;
+        match command {
+            Command::Call(call) => {
+                let said = self.calls.make(call);
+                self.say(said)?;
+            }
+            Command::Lend { side, n } => areas.lend(side, n),
+            Command::Universe { place, word } => {
+                areas.universe.change(place, |part| *part = P::make(word));
+            }
+            Command::Table { place, word } => {
+                areas.table.change(place, |part| *part = P::make(word));
+            }
+            Command::Kind { place, kind } => areas.rows.change(place, |card| card.kind = kind),
+            Command::Show => self.show()?,
+            Command::Unknown => {}
+        }
+        Ok(())
     }
 }
 
-/// Runs the case that the items say, of which there are at most `most`. Past the last of them comes 0, which is no command.
+/// Runs the case that the items say from the lengths on.
 pub(crate) fn run_case<P: Part>(
     rt: &HostRuntime,
     number: u64,
-    items: &mut Items,
-    most: usize,
+    by_sum: bool,
+    mut items: Items,
 ) -> anyhow::Result<()> {
-    let sums = items.number() == 1;
-    let mut areas: Areas<P> = Areas::new(rt.alloc(), lengths(items))?;
-    let mut seen = Seen::new(rt.alloc(), &areas)?;
-    let mut out = String::new(rt.alloc());
-    let mut stage = Stage::Nothing;
-    for _ in 0..most {
-        let letter = items.byte();
-        let next = obey(&mut areas, stage, letter, items);
-        let (now, said) = next;
-        stage = now;
-        if let Err(e) = tell(rt, number, &mut out, letter, said, &areas, &mut seen, sums) {
-            stage.close();
-            return Err(e);
-        }
+    let heap = rt.alloc();
+    let lengths = items.numbers().map(|length| length as usize);
+    let areas: Areas<P> = Areas::new(heap, lengths)?;
+    let mut run = Run {
+        rt,
+        number,
+        by_sum,
+        seen: areas.to_numbers(heap)?,
+        calls: Calls::new(areas),
+        line: String::new(heap),
+    };
+    for command in items {
+        run.obey(command)?;
     }
-    stage.close();
     Ok(())
 }

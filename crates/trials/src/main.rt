@@ -2,36 +2,62 @@
 //! digits, `|`, and its lines joined by `/`.
 #![tactic(auto)]
 
+ghost use Rattle.std.specs.Prelude.{◌<◌, IfSome};
+
 use std::alloc::{AllocError, Global};
+use std::fmt;
 use std::io::{BufRead, BufReader};
 
-// What a hexadecimal digit stands for.
-fn digit(byte: u8) -> Option<u8> {
-    match byte {
-        b'0'..=b'9' => Some(byte - b'0'),
-        b'a'..=b'f' => Some(byte - b'a' + 10),
-        _ => None,
+// What is wrong with a case.
+#[derive(Drop)]
+enum Flaw<'a> {
+    // It has no `|`.
+    NoCase(&'a str),
+    // What stands before it are no digits of bytes.
+    NoSheet(&'a str),
+    // The sheet prints other lines.
+    Prints {
+        digits: &'a str,
+        found: String,
+        wanted: String,
+    },
+}
+
+impl fmt::Display for Flaw<'_> {
+    fn fmt<W: fmt::Write>(&self, f: &mut fmt::Formatter<W>) -> fmt::Result {
+        match self {
+            Flaw::NoCase(case) => write!(f, "no case: {case}"),
+            Flaw::NoSheet(digits) => write!(f, "no sheet: {digits}"),
+            Flaw::Prints {
+                digits,
+                found,
+                wanted,
+            } => write!(f, "{digits} prints {found:?} in place of {wanted:?}"),
+        }
     }
+}
+
+// What a hexadecimal digit stands for; capitals are none.
+fn digit(byte: u8) -> Option<u32>
+    ensures { IfSome result (λ d. d < 16) }
+{
+    if byte.is_ascii_uppercase() {
+        return None;
+    }
+    char::from(byte).to_digit(16)
 }
 
 // The byte that two digits stand for.
-fn byte_of(high: u8, low: u8) -> Option<u8> {
-    Some(digit(high)? << 4 | digit(low)?)
+fn byte_of(pair: &[u8]) -> Option<u8> {
+    let [high, low] = pair else {
+        return None;
+    };
+    Some((digit(*high)? * 16 + digit(*low)?) as u8)
 }
 
 // The bytes that a text of digits stands for.
-fn bytes_of(heap: Global, digits: &[u8]) -> Result<Option<Vec<u8>>, AllocError> {
-    let mut bytes = Vec::new(heap);
-    for pair in digits.chunks(2) {
-        let [high, low] = pair else {
-            return Ok(None);
-        };
-        let Some(byte) = byte_of(*high, *low) else {
-            return Ok(None);
-        };
-        bytes.push(byte)?;
-    }
-    Ok(Some(bytes))
+fn bytes_of(heap: Global, digits: &str) -> Result<Option<Vec<u8>>, AllocError> {
+    digits.as_bytes().chunks(2).map(byte_of).collect(heap)
 }
 
 // The lines that are joined by `/`, each with a newline.
@@ -47,39 +73,35 @@ fn lines_of(heap: Global, joined: &str) -> Result<String, AllocError> {
     Ok(lines)
 }
 
-// Runs a sheet; says so where it prints other lines than expected.
-fn is_right(rt: &HostRuntime, number: u64, digits: &str, expected: &str) -> anyhow::Result<bool> {
-    let Some(bytes) = bytes_of(rt.alloc(), digits.as_bytes())? else {
-        println!(rt; "case {number}: no sheet: {digits}")?;
-        return Ok(false);
+// Runs a case: what is wrong with it, if anything is.
+fn flaw_of(heap: Global, case: &str) -> Result<Option<Flaw<'_>>, AllocError> {
+    let Some((digits, expected)) = case.split_once('|') else {
+        return Ok(Some(Flaw::NoCase(case)));
     };
-    let found = sheet::lines(rt.alloc(), &bytes)?;
-    let wanted = lines_of(rt.alloc(), expected)?;
-    if found.as_str() != wanted.as_str() {
-        println!(rt; "case {number}: {digits} prints {found:?} in place of {wanted:?}")?;
-        return Ok(false);
+    let Some(bytes) = bytes_of(heap, digits)? else {
+        return Ok(Some(Flaw::NoSheet(digits)));
+    };
+    let found = sheet::lines(heap, &bytes)?;
+    let wanted = lines_of(heap, expected)?;
+    if found == wanted {
+        return Ok(None);
     }
-    Ok(true)
-}
-
-// Runs a case; says so where it is wrong.
-fn passes(rt: &HostRuntime, number: u64, case: &str) -> anyhow::Result<bool> {
-    match case.split_once('|') {
-        Some((digits, expected)) => is_right(rt, number, digits, expected),
-        None => {
-            println!(rt; "case {number}: no case: {case}")?;
-            Ok(false)
-        }
-    }
+    Ok(Some(Flaw::Prints {
+        digits,
+        found,
+        wanted,
+    }))
 }
 
 fn main(rt: HostRuntime) -> anyhow::Result<()> {
     let mut cases: u64 = 0;
     let mut wrong: u64 = 0;
-    for line in BufReader::new(rt.alloc(), rt.stdin())?.lines(rt.alloc()) {
+    let lines = BufReader::new(rt.alloc(), rt.stdin())?.lines(rt.alloc());
+    for (number, line) in (1..).zip(lines) {
         let line = line?;
-        cases = cases.wrapping_add(1);
-        if !passes(&rt, cases, line.as_str())? {
+        cases = number;
+        if let Some(flaw) = flaw_of(rt.alloc(), line.as_str())? {
+            println!(rt; "case {number}: {flaw}")?;
             wrong = wrong.wrapping_add(1);
         }
     }
