@@ -1,7 +1,7 @@
 -- What Open leaves, in the subject's words.
 use Rattle.std.proofs.Common.{◌≡◌, ℕ, zero, suc, ◌+◌, ◌-◌, ◌*◌, ◌≤◌, Bool, true, false, cond, leb, List, ◌∷◌, map, length, get_or, take, drop, replicate, Ok, Err, Result, sym, refl, ap, ◌∙◌, subst, ap₂, add-mul, one-mul, add-one, arith}
 use Rattle.std.specs.List.{AllByRecursion}
-use Rattle.std.proofs.lemmas.List.{length-take-le, length-drop, length-map, take_all, take-map, take-take, drop-map, drop_at}
+use Rattle.std.proofs.lemmas.List.{length-take-le, length-drop, length-map, take_all, take-map, drop-map, drop_at}
 use Rattle.std.proofs.lemmas.Bool.{leb-true}
 use Rattle.cubes.specs.Areas.{cubes, flat, overlay}
 use Rattle.cubes.specs.Cubes.{Cube, Cover, Wide, rest}
@@ -173,7 +173,5 @@ pub off_answered : (most : ℕ) (L : Cover) (m : ℕ) → off_answer most L ≡ 
 off_answered most L m e = answered_by (leb (length L) most) (length L) most m e
 
 -- the off list of the rows that are read as a list
-pub off_same : {X : Type 0} (s : X → ℕ) (p n : ℕ) (U T : List X) (l : Cubes X) → l.p ≡ p → l.n ≡ n → l.parts.now ≡ T → off_of s (take p U) l ≡ off_list p n (map s U) (map s T)
-off_same s p n U T l ep en et =
-    let u : take p (map s (take p U)) ≡ take p (map s U) = ap (take p) (sym (take-map s p U)) ∙ take-take p p (map s U) (omega arith) in
-    rw (ep, en, et) (ap (λ c. rest c (cubes p n (map s T))) u)
+pub off_same : {X : Type 0} (s : X → ℕ) (p n : ℕ) (U T : List X) (l : Cubes X) → l.p ≡ p → l.n ≡ n → l.parts.now ≡ T → off_of s U l ≡ off_list p n (map s U) (map s T)
+off_same s p n U T l ep en et = rw (ep, en, et)

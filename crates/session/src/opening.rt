@@ -48,7 +48,7 @@ pub fn open<P: Part>(
     }
     let cubes = Cubes::new(table, p, n);
     let list = Rows::new(cubes, rows);
-    let off = match off_list(&universe[..p], &list.cubes, off, work, numbers) {
+    let off = match off_list(universe, &list.cubes, off, work, numbers) {
         Ok(off) => off,
         Err(cause) => return Err((t, cause.by(Layer::Engine))),
     };

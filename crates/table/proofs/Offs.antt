@@ -1,6 +1,6 @@
 -- The walk of Open: where it starts, and the part of the work area that it is lent.
 use Rattle.std.proofs.Common.{◌≡◌, ℕ, ◌+◌, ◌-◌, ◌*◌, ◌/◌, ◌≤◌, min, List, ◌++◌, map, length, take, drop, replicate, sym, ap, ◌∙◌, mul-le-mul_right, add-mul, one-mul, le-div_iff_mul-le, arith}
-use Rattle.std.proofs.lemmas.List.{length-map, length-replicate, map-append, drop-map, drop_at, take_all}
+use Rattle.std.proofs.lemmas.List.{length-map, length-replicate, map-append, drop-map, drop_at, take-map, length-take-le}
 use Rattle.cubes.specs.Areas.{cube_at, put_at, overlay}
 use Rattle.cubes.proofs.Areas.{map-put, cube_at-put}
 use Rattle.table.specs.Cards.{area_length}
@@ -9,11 +9,11 @@ pub first_fits : (p m : ℕ) → p ≤ m → 0 * p + p ≤ m
 first_fits p m h = omega arith
 
 -- the first cube of the work area is the universe
-pub put_first : {X : Type 0} (s : X → ℕ) (p : ℕ) (W U : List X) → p ≤ length W → length U ≡ p → cube_at p 0 (map s (put_at p 0 U W)) ≡ take p (map s U)
+pub put_first : {X : Type 0} (s : X → ℕ) (p : ℕ) (W U : List X) → p ≤ length W → p ≤ length U → cube_at p 0 (map s (put_at p 0 (take p U) W)) ≡ take p (map s U)
 put_first s p W U h l =
-    let size : length (map s U) ≡ p = length-map U s ∙ l in
+    let size : length (map s (take p U)) ≡ p = length-map (take p U) s ∙ length-take-le p U l in
     let room : 0 * p + p ≤ length (map s W) = rw length-map (first_fits p (length W) h) in
-    ap (cube_at p 0) (map-put s p 0 U W) ∙ cube_at-put p 0 (map s U) (map s W) room size ∙ sym (take_all p (map s U) (omega arith))
+    ap (cube_at p 0) (map-put s p 0 (take p U) W) ∙ cube_at-put p 0 (map s (take p U)) (map s W) room size ∙ sym (take-map s p U)
 
 -- a piece more than fits one place fits one
 pub one_fits : (p n m : ℕ) → (1 + (p - 1) * n) * p ≤ m → p ≤ m

@@ -26,7 +26,7 @@ fn off_within<P: Part>(
     numbers: &mut [usize],
 ) -> Result<usize, TooMany>
     requires some { 1 ≤ rows.now.p }
-    requires full { length universe.now ≡ rows.now.p }
+    requires full { rows.now.p ≤ length universe.now }
     requires space { most * rows.now.p ≤ length off.old }
     requires fits { (1 + (rows.now.p - 1) * rows.now.n) * rows.now.p ≤ length work.old }
     requires room { 1 + (rows.now.p - 1) * rows.now.n ≤ length numbers.old }
@@ -36,7 +36,8 @@ fn off_within<P: Part>(
     ensures work { map P.set work.new ≡ replicate (length work.old) 0 }
     ensures numbers { numbers.new ≡ replicate (length numbers.old) 0 }
 {
-    copy_cube(work, 0, rows.width(), universe);
+    let p = rows.width();
+    copy_cube(work, 0, p, &universe[..p]);
     let answer = rest_of(work, numbers, rows, off, most);
     clear(work);
     numbers.fill(0);
@@ -52,7 +53,7 @@ pub fn off_list<P: Part>(
     numbers: &mut [usize],
 ) -> Result<usize, Cause>
     requires some { 1 ≤ rows.now.p }
-    requires full { length universe.now ≡ rows.now.p }
+    requires full { rows.now.p ≤ length universe.now }
     requires room { 1 + (rows.now.p - 1) * rows.now.n ≤ area_length rows.now.p (length work.old) (length numbers.old) }
     ensures answer { result ≡ off_answer (off_most rows.now.p (length off.old)) (off_of P.set universe.now rows.now) }
     ensures off { map P.set off.new ≡ overlay (flat (take (off_most rows.now.p (length off.old)) (off_of P.set universe.now rows.now))) (map P.set off.old) }

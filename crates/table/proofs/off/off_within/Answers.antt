@@ -14,7 +14,7 @@ returns-clause-answer g c =
     let list = sets_of s l in
     let room = one_fits p l.n (length c.args.work.now) c.requires.fits in
     let start : cube_at p 0 (map s c.copy_cube.new.dst) ≡ take p (map s c.args.universe.now) =
-    ap (λ W. cube_at p 0 (map s W)) (c.copy_cube.ensures ∙ ap (λ m. put_at m 0 c.args.universe.now c.args.work.now) c.width.ensures) ∙ put_first s p c.args.work.now c.args.universe.now room c.requires.full in
+    ap (λ W. cube_at p 0 (map s W)) (c.copy_cube.ensures ∙ ap (λ m. put_at m 0 (take m c.args.universe.now) c.args.work.now) c.width-p.ensures) ∙ put_first s p c.args.work.now c.args.universe.now room c.requires.full in
     c.rest_of-answer.ensures.answer ∙ ap (λ u. count_if_whole c.args.most (rest u list)) start
 
 pub returns-clause-off : goal.returns-clause-off
@@ -25,7 +25,7 @@ returns-clause-off g c =
     let list = sets_of s l in
     let room = one_fits p l.n (length c.args.work.now) c.requires.fits in
     let start : cube_at p 0 (map s c.copy_cube.new.dst) ≡ take p (map s c.args.universe.now) =
-    ap (λ W. cube_at p 0 (map s W)) (c.copy_cube.ensures ∙ ap (λ m. put_at m 0 c.args.universe.now c.args.work.now) c.width.ensures) ∙ put_first s p c.args.work.now c.args.universe.now room c.requires.full in
+    ap (λ W. cube_at p 0 (map s W)) (c.copy_cube.ensures ∙ ap (λ m. put_at m 0 (take m c.args.universe.now) c.args.work.now) c.width-p.ensures) ∙ put_first s p c.args.work.now c.args.universe.now room c.requires.full in
     c.rest_of-answer.ensures.written ∙ ap (λ u. overlay (flat (take c.args.most (rest u list))) (map s c.args.off.now)) start
 
 pub returns-clause-off_stays : goal.returns-clause-off_stays
@@ -36,5 +36,5 @@ returns-clause-off_stays g c =
     let list = sets_of s l in
     let room = one_fits p l.n (length c.args.work.now) c.requires.fits in
     let start : cube_at p 0 (map s c.copy_cube.new.dst) ≡ take p (map s c.args.universe.now) =
-    ap (λ W. cube_at p 0 (map s W)) (c.copy_cube.ensures ∙ ap (λ m. put_at m 0 c.args.universe.now c.args.work.now) c.width.ensures) ∙ put_first s p c.args.work.now c.args.universe.now room c.requires.full in
+    ap (λ W. cube_at p 0 (map s W)) (c.copy_cube.ensures ∙ ap (λ m. put_at m 0 (take m c.args.universe.now) c.args.work.now) c.width-p.ensures) ∙ put_first s p c.args.work.now c.args.universe.now room c.requires.full in
     rw start at c.rest_of-answer.ensures.stays
