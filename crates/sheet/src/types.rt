@@ -1,7 +1,8 @@
-//! The bench's areas, the states of a sheet that hold a table or a session, and what a command prints.
+//! The bench's areas, the parts that are declared, and the table that is being filled.
 ghost use Rattle.std.specs.Prelude.{◌≤◌};
+ghost use Rattle.sheet.specs.Bench.{Small};
 
-use session::{Open, Table};
+use session::Table;
 use table::card::Card;
 
 /// The areas of the bench.
@@ -17,6 +18,15 @@ pub(crate) struct Areas<P> {
     pub(crate) numbers: Vec<usize>,
 }
 
+/// The parts that are declared: how many, and their sizes, with zeros past them.
+#[derive(Drop)]
+pub(crate) struct Sizes {
+    pub(crate) all: [usize; 16],
+    pub(crate) p: usize,
+    ghost few: { p ≤ 16 },
+    ghost small: { Small all },
+}
+
 /// A table that is being filled, with the parts declared, the universe as a row of words, and the row in hand.
 pub(crate) struct Draft {
     pub(crate) table: Table,
@@ -26,29 +36,9 @@ pub(crate) struct Draft {
     ghost few: { p ≤ 16 },
 }
 
-/// A table that is being filled, or an open session.
-pub(crate) enum Stage {
-    Filling(Draft),
-    Opened(Open),
-}
-
-/// What a command prints.
+/// How many cubes the solution and the off list have, which is printed when the table is opened.
 #[derive(Clone, Copy)]
-pub(crate) enum Said {
-    Nothing,
-    Opened { on: usize, off: usize },
-}
-
-/// The kinds of part.
-#[derive(Clone, Copy)]
-pub(crate) enum Kind {
-    Word,
-    Ternary,
-}
-
-/// What state 1 goes on with: one part more is declared, or the table begins.
-#[derive(Clone, Copy)]
-pub(crate) enum Next {
-    Part,
-    Table,
+pub(crate) struct Tally {
+    pub(crate) on: usize,
+    pub(crate) off: usize,
 }
