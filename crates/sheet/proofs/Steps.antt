@@ -1,5 +1,5 @@
 -- What is printed, one command at a time.
-use Rattle.std.proofs.Common.{◌≡◌, ℕ, zero, suc, ◌-◌, ◌<◌, List, [], ◌∷◌, ◌++◌, length, drop, IfOk, Some, None, Ok, Err, Option, Result, sym, refl, ap, ◌∙◌, ap₂, append_assoc, arith, length-drop}
+use Rattle.std.proofs.Common.{◌≡◌, ℕ, zero, suc, ◌-◌, ◌<◌, List, [], ◌∷◌, ◌++◌, length, drop, Some, None, Ok, Err, Option, Result, sym, refl, ap, ◌∙◌, ap₂, append_assoc, arith, length-drop}
 use Rattle.std.specs.Result.{result_map_both}
 use Rattle.faults.specs.Codes.{refusal_line}
 use Rattle.faults.specs.declared.Cause.{Cause}
@@ -73,3 +73,7 @@ pub lines_on :
     → out ++ after_step (λ t. lines_from end t rest) at r ≡ all → next ++ lines_from end t rest ≡ all
 lines_on end at rest r t line out next all e n h =
     ap (λ l. l ++ lines_from end t rest) n ∙ append_assoc out line (lines_from end t rest) ∙ ap (λ r. out ++ after_step (λ t. lines_from end t rest) at r) e ∙ h
+
+-- where the command was refused
+pub lines_stop : (end at : ℕ) (rest : List ℕ) (r : Step) (f : Fault) (out all : List ℕ) → Err f ≡ r → out ++ after_step (λ t. lines_from end t rest) at r ≡ all → out ++ refusal_line f at ≡ all
+lines_stop end at rest r f out all e h = ap (λ r. out ++ after_step (λ t. lines_from end t rest) at r) e ∙ h

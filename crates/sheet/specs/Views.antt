@@ -1,6 +1,7 @@
 -- What the code holds, as states of the bench.
 use Rattle.std.specs.Prelude.{◌≡◌, ℕ, List, [], ◌++◌, map, replicate, Some, None, Ok, Err, vec_items, Option, Result}
 use Rattle.faults.specs.declared.Fault.{Fault}
+use Rattle.commands.specs.declared.Command.{Command}
 use Rattle.faults.specs.Codes.{refusal_line}
 use Rattle.session.specs.States as session
 use Rattle.sheet.specs.declared.types.Areas.{Areas}
@@ -13,7 +14,7 @@ use Rattle.sheet.specs.declared.starting.Kind.{Kind}
 use Rattle.sheet.specs.declared.starting.Kind.TheVariants as kind
 use Rattle.sheet.specs.declared.stop.Stop.{Stop}
 use Rattle.sheet.specs.declared.stop.Stop.TheVariants as stop
-use Rattle.sheet.specs.Bench.{Memory, Drafted, State, sizing, filling, opened, Step, open_line}
+use Rattle.sheet.specs.Bench.{Memory, Drafted, State, sizing, filling, opened, Step, begins, open_line}
 
 abbrev pub memory : {P : Type 0} → (P → ℕ) → Areas P → Memory
 memory set a =
@@ -49,6 +50,11 @@ chosen (Err f) = Err f
 abbrev pub declared : ℕ → Result (Unit {0}) Fault → Sizes → Step
 declared most (Ok done) s = Ok (sizing most s.all s.p, [])
 declared most (Err f) s = Err f
+
+abbrev pub sized : ℕ → Result (Option Command) Fault → Sizes → Step
+sized most (Ok None) s = Ok (sizing most s.all s.p, [])
+sized most (Ok (Some c)) s = begins most s.all s.p c
+sized most (Err f) s = Err f
 
 abbrev pub draft : Result Draft Fault → Memory → Result (Drafted × Memory) Fault
 draft (Ok d) m = Ok (drafted d, m)

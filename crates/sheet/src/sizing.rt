@@ -1,8 +1,8 @@
 //! State 1: the kind is known, and parts are declared.
 ghost use Rattle.std.specs.Prelude.{◌≡◌, ◌++◌, replicate, string_bytes};
-ghost use Rattle.sheet.specs.Bench.{sizing, part_declared};
+ghost use Rattle.sheet.specs.Bench.{sizing, part_declared, at_sizing};
 ghost use Rattle.sheet.specs.Lines.{lines_from};
-ghost use Rattle.sheet.specs.Views.{Ends, declared};
+ghost use Rattle.sheet.specs.Views.{Ends, declared, sized};
 
 use crate::filling::fill_table;
 use crate::reader::Reader;
@@ -46,6 +46,23 @@ impl Sizes {
         self.p += 1;
         Ok(())
     }
+
+    // Obeys a command, or hands it back where it begins the table.
+    fn obey<P: Part>(&mut self, command: Command) -> Result<Option<Command>, Fault>
+        ensures { sized P.MOST result self.new ≡ at_sizing P.MOST self.old.all self.old.p command }
+    {
+        match command {
+            Command::Kind(_) => Err(misplaced(command, State::Sizing)),
+            Command::Size(size) => {
+                self.declare::<P>(size)?;
+                Ok(None)
+            }
+            Command::Value { part, .. } if part as usize >= self.p => Err(Cause::Operand {
+                value: part,
+            }.by(Layer::Sheet)),
+            Command::Value { .. } | Command::On | Command::Dc | Command::Open => Ok(Some(command)),
+        }
+    }
 }
 
 /// Obeys the commands after the kind.
@@ -58,15 +75,8 @@ pub(crate) fn size_parts<P: Part>(
 {
     let mut sizes = Sizes::new();
     while let Some(command) = reader.next()? {
-        match command {
-            Command::Kind(_) => return Err(misplaced(command, State::Sizing).into()),
-            Command::Size(size) => sizes.declare::<P>(size)?,
-            Command::Value { part, .. } if part as usize >= sizes.p => {
-                return Err(Cause::Operand { value: part }.by(Layer::Sheet).into());
-            }
-            Command::Value { .. } | Command::On | Command::Dc | Command::Open => {
-                return fill_table::<P>(heap, &sizes, command, reader, out);
-            }
+        if let Some(command) = sizes.obey::<P>(command)? {
+            return fill_table::<P>(heap, &sizes, command, reader, out);
         }
     }
     Ok(())

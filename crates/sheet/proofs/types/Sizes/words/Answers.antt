@@ -1,4 +1,4 @@
-use Rattle.std.proofs.Common.{lit<, ◌≡◌, ℕ, ◌+◌, ◌<◌, ◌≤◌, length, get_or, map, List, refl, sym, ap, ◌∙◌, rules, arith}
+use Rattle.std.proofs.Common.{lit<, ◌≡◌, ℕ, ◌<◌, ◌≤◌, length, get_or, map, List, refl, sym, ap, ◌∙◌, rules, arith}
 use Rattle.std.specs.Array.{list_steps}
 use Rattle.std.proofs.lemmas.Iterator.{YieldsList}
 use Rattle.std.proofs.lemmas.Iterator.Adapters.{serves_from_places}
@@ -14,9 +14,17 @@ road xs = YieldsList-from_shown (list_steps {A = ℕ}) (λ x. x) (λ s. s) (λ s
 
 pub map-requires : goal.map-requires
 map-requires c =
-    let sizes = c.args.self.now.all in
-    (lit< tt, (lit< tt, (lit< tt, serves_from_places (road sizes) (λ x q h. refl)
-    (λ x k h e. let small : x ≤ 64 = omega (arith, c.args.self.now.small k, get_or_default_zero sizes k x h, e) in search rules))))
+    let sizes = c.args.self.now.all in (
+      lit< tt,
+      (
+        lit< tt,
+        (
+          lit< tt,
+          serves_from_places (road sizes) (λ x q h. refl)
+              (λ x k h e. let small : x ≤ 64 = omega (arith, c.args.self.now.small k, get_or_default_zero sizes k x h, e) in search rules),
+        ),
+      ),
+    )
 
 pub returns : goal.returns
 returns c =
