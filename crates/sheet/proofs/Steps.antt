@@ -69,10 +69,11 @@ module _ (end : ℕ) (s : State) (bs : List ℕ) where
 
 -- what is printed after a command that was obeyed
 pub lines_on :
-    (end at : ℕ) (rest : List ℕ) (r : Step) (t : State) (line out next all : List ℕ) → Ok (t, line) ≡ r → next ≡ out ++ line
-    → out ++ after_step (λ t. lines_from end t rest) at r ≡ all → next ++ lines_from end t rest ≡ all
-lines_on end at rest r t line out next all e n h =
-    ap (λ l. l ++ lines_from end t rest) n ∙ append_assoc out line (lines_from end t rest) ∙ ap (λ r. out ++ after_step (λ t. lines_from end t rest) at r) e ∙ h
+    (end at : ℕ) (rest : List ℕ) (r : Step) (t : State) (line out next all : List ℕ) (last : ℕ) (left : List ℕ) → Ok (t, line) ≡ r → next ≡ out ++ line
+    → last ≡ end → left ≡ rest → out ++ after_step (λ t. lines_from end t rest) at r ≡ all → next ++ lines_from last t left ≡ all
+lines_on end at rest r t line out next all last left e n k l h =
+    ap₂ (λ (a : ℕ) (b : List ℕ). next ++ lines_from a t b) k l
+    ∙ ap (λ l. l ++ lines_from end t rest) n ∙ append_assoc out line (lines_from end t rest) ∙ ap (λ r. out ++ after_step (λ t. lines_from end t rest) at r) e ∙ h
 
 -- where the command was refused
 pub lines_stop : (end at : ℕ) (rest : List ℕ) (r : Step) (f : Fault) (out all : List ℕ) → Err f ≡ r → out ++ after_step (λ t. lines_from end t rest) at r ≡ all → out ++ refusal_line f at ≡ all

@@ -1,11 +1,12 @@
 -- What the code holds, as states of the bench.
-use Rattle.std.specs.Prelude.{◌≡◌, ℕ, List, [], ◌++◌, map, replicate, Some, None, Ok, Err, vec_items, Option, Result}
+use Rattle.std.specs.Prelude.{◌≡◌, ℕ, List, [], ◌++◌, map, replicate, Some, None, Ok, Err, string_bytes, vec_items, Option, Result}
 use Rattle.faults.specs.declared.Fault.{Fault}
 use Rattle.commands.specs.declared.Command.{Command}
 use Rattle.faults.specs.Codes.{refusal_line}
 use Rattle.session.specs.States as session
 use Rattle.sheet.specs.declared.types.Areas.{Areas}
 use Rattle.sheet.specs.declared.types.Draft.{Draft}
+use Rattle.sheet.specs.declared.progress.Progress.{Progress}
 use Rattle.sheet.specs.declared.types.Sizes.{Sizes}
 use Rattle.sheet.specs.declared.stage.Stage.{Stage}
 use Rattle.sheet.specs.declared.stage.Stage.TheVariants as stage
@@ -64,8 +65,8 @@ abbrev pub step : ℕ → Result (Stage × Option Tally) Fault → Memory → St
 step most (Ok r) m = Ok (state most r.0 m, said_line r.1)
 step most (Err f) m = Err f
 
--- what is printed where a sheet is obeyed to its end or to a refusal at an offset, after what is printed before; nothing is said of want of memory
-abbrev pub Ends : Result (Unit {0}) Stop → List ℕ → ℕ → List ℕ → Type 0
-Ends (Ok done) before at lines = before ≡ lines
-Ends (Err (stop.Refused f)) before at lines = before ++ refusal_line f at ≡ lines
-Ends (Err (stop.Memory e)) before at lines = Unit {0}
+-- what is printed where a sheet is obeyed to its end or to a refusal, with the lines so far; nothing is said of want of memory
+abbrev pub Ends : Result (Unit {0}) Stop → Progress → List ℕ → Type 0
+Ends (Ok done) p lines = string_bytes p.lines ≡ lines
+Ends (Err (stop.Refused f)) p lines = string_bytes p.lines ++ refusal_line f p.at ≡ lines
+Ends (Err (stop.Memory e)) p lines = Unit {0}

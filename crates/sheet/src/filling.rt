@@ -5,7 +5,7 @@ ghost use Rattle.sheet.specs.Lines.{obeyed, after_step, lines_from};
 ghost use Rattle.sheet.specs.Views.{Ends, memory, drafted, state, step};
 
 use crate::areas::fresh_areas;
-use crate::reader::Reader;
+use crate::progress::Progress;
 use crate::refusing::misplaced;
 use crate::stage::Stage;
 use crate::stop::Stop;
@@ -13,7 +13,6 @@ use crate::types::{Areas, Draft, Sizes, Tally};
 use commands::Command;
 use faults::{Cause, Fault, Kind, Layer, State};
 use parts::Part;
-use std::alloc::Global;
 
 impl Draft {
     /// Ends the table.
@@ -61,10 +60,9 @@ fn run<P: Part>(
     stage: Stage,
     command: Command,
     areas: &mut Areas<P>,
-    reader: &mut Reader<'_>,
-    out: &mut String,
+    progress: &mut Progress<'_>,
 ) -> Result<(), Stop>
-    ensures { Ends result (string_bytes out.new) reader.new.at (string_bytes out.old ++ after_step (λ t. lines_from reader.old.end t reader.old.rest.now) reader.old.at (obeyed (state P.MOST stage (memory P.set areas.old)) command)) }
+    ensures { Ends result progress.new (string_bytes progress.old.lines ++ after_step (λ t. lines_from progress.old.end t progress.old.rest.now) progress.old.at (obeyed (state P.MOST stage (memory P.set areas.old)) command)) }
 {
     let mut stage = stage;
     let mut command = command;
@@ -72,9 +70,9 @@ fn run<P: Part>(
         let (next, tally) = stage.obey(command, areas)?;
         stage = next;
         if let Some(tally) = tally {
-            write!(out, "{tally}")?;
+            write!(progress.lines, "{tally}")?;
         }
-        match reader.next()? {
+        match progress.next()? {
             Some(next) => command = next,
             None => return Ok(()),
         }
@@ -83,15 +81,14 @@ fn run<P: Part>(
 
 /// Begins the table, and obeys the command in hand and those after it.
 pub(crate) fn fill_table<P: Part>(
-    heap: Global,
     sizes: &Sizes,
     command: Command,
-    reader: &mut Reader<'_>,
-    out: &mut String,
+    progress: &mut Progress<'_>,
 ) -> Result<(), Stop>
-    ensures { Ends result (string_bytes out.new) reader.new.at (string_bytes out.old ++ after_step (λ t. lines_from reader.old.end t reader.old.rest.now) reader.old.at (begins P.MOST sizes.now.all sizes.now.p command)) }
+    ensures { Ends result progress.new (string_bytes progress.old.lines ++ after_step (λ t. lines_from progress.old.end t progress.old.rest.now) progress.old.at (begins P.MOST sizes.now.all sizes.now.p command)) }
 {
+    let heap = *progress.lines.allocator();
     let mut areas = fresh_areas::<P>(heap, sizes.p)?;
     let draft = Draft::begin(sizes, &mut areas)?;
-    run(Stage::Filling(draft), command, &mut areas, reader, out)
+    run(Stage::Filling(draft), command, &mut areas, progress)
 }

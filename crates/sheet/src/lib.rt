@@ -3,7 +3,7 @@
 
 mod areas;
 mod filling;
-mod reader;
+mod progress;
 mod refusing;
 mod sizing;
 mod stage;
@@ -18,7 +18,7 @@ ghost use Rattle.sheet.specs.Views.{Ends};
 
 use faults::{Cause, Layer};
 use parts::{Ternary, Word};
-use reader::Reader;
+use progress::Progress;
 use sizing::size_parts;
 use starting::{Kind, choose};
 use std::alloc::{AllocError, Global};
@@ -35,15 +35,15 @@ fn is_long(sheet: &[u8]) -> bool
 }
 
 // Obeys a sheet from its start.
-fn obey(heap: Global, reader: &mut Reader<'_>, out: &mut String) -> Result<(), Stop>
-    ensures { Ends result (string_bytes out.new) reader.new.at (string_bytes out.old ++ lines_from reader.old.end bench.start reader.old.rest.now) }
+fn obey(progress: &mut Progress<'_>) -> Result<(), Stop>
+    ensures { Ends result progress.new (string_bytes progress.old.lines ++ lines_from progress.old.end bench.start progress.old.rest.now) }
 {
-    let Some(command) = reader.next()? else {
+    let Some(command) = progress.next()? else {
         return Ok(());
     };
     match choose(command)? {
-        Kind::Word => size_parts::<Word>(heap, reader, out),
-        Kind::Ternary => size_parts::<Ternary>(heap, reader, out),
+        Kind::Word => size_parts::<Word>(progress),
+        Kind::Ternary => size_parts::<Ternary>(progress),
     }
 }
 
@@ -54,14 +54,15 @@ pub fn lines(heap: Global, sheet: &[u8]) -> Result<String, AllocError>
     if is_long(sheet) {
         return Cause::Long.by(Layer::Sheet).line(heap, 0);
     }
-    let mut out = String::new(heap);
-    let mut reader = Reader::new(sheet);
-    match obey(heap, &mut reader, &mut out) {
-        Ok(()) => Ok(out),
+    let mut progress = Progress::new(heap, sheet);
+    let ended = obey(&mut progress);
+    let Progress { mut lines, at, .. } = progress;
+    match ended {
+        Ok(()) => Ok(lines),
         Err(Stop::Refused(fault)) => {
-            let line = fault.line(heap, reader.at)?;
-            out.push_str(line.as_str())?;
-            Ok(out)
+            let line = fault.line(heap, at)?;
+            lines.push_str(line.as_str())?;
+            Ok(lines)
         }
         Err(Stop::Memory(e)) => Err(e),
     }

@@ -5,14 +5,13 @@ ghost use Rattle.sheet.specs.Lines.{lines_from};
 ghost use Rattle.sheet.specs.Views.{Ends, declared, sized};
 
 use crate::filling::fill_table;
-use crate::reader::Reader;
+use crate::progress::Progress;
 use crate::refusing::misplaced;
 use crate::stop::Stop;
 use crate::types::Sizes;
 use commands::Command;
 use faults::{Cause, Fault, Layer, State};
 use parts::Part;
-use std::alloc::Global;
 
 impl Sizes {
     // No part.
@@ -66,17 +65,13 @@ impl Sizes {
 }
 
 /// Obeys the commands after the kind.
-pub(crate) fn size_parts<P: Part>(
-    heap: Global,
-    reader: &mut Reader<'_>,
-    out: &mut String,
-) -> Result<(), Stop>
-    ensures { Ends result (string_bytes out.new) reader.new.at (string_bytes out.old ++ lines_from reader.old.end (sizing P.MOST (replicate 16 0) 0) reader.old.rest.now) }
+pub(crate) fn size_parts<P: Part>(progress: &mut Progress<'_>) -> Result<(), Stop>
+    ensures { Ends result progress.new (string_bytes progress.old.lines ++ lines_from progress.old.end (sizing P.MOST (replicate 16 0) 0) progress.old.rest.now) }
 {
     let mut sizes = Sizes::new();
-    while let Some(command) = reader.next()? {
+    while let Some(command) = progress.next()? {
         if let Some(command) = sizes.obey::<P>(command)? {
-            return fill_table::<P>(heap, &sizes, command, reader, out);
+            return fill_table::<P>(&sizes, command, progress);
         }
     }
     Ok(())

@@ -5,8 +5,10 @@ use Rattle.sheet.proofs.filling.run.Given as goal
 
 abbrev pub invariant-loop-next : goal.invariant-loop-next
 invariant-loop-next g l =
-    string_bytes l.out ++ lines_of_command l.reader.end (state g.P.Part.MOST l.stage (memory g.P.Part.set l.areas)) l.reader.at l.reader.rest.now l.command
-    ≡ string_bytes l.initial.out ++ lines_of_command l.initial.reader.end (state g.P.Part.MOST l.initial.stage (memory g.P.Part.set l.initial.areas)) l.initial.reader.at l.initial.reader.rest.now l.initial.command
+    let p = l.progress in
+    let q = l.initial.progress in
+    string_bytes p.lines ++ lines_of_command p.end (state g.P.Part.MOST l.stage (memory g.P.Part.set l.areas)) p.at p.rest.now l.command
+    ≡ string_bytes q.lines ++ lines_of_command q.end (state g.P.Part.MOST l.initial.stage (memory g.P.Part.set l.initial.areas)) q.at q.rest.now l.initial.command
 
 abbrev pub decreases-loop-next : goal.decreases-loop-next
-decreases-loop-next g l = length l.reader.rest.now
+decreases-loop-next g l = length l.progress.rest.now

@@ -5,8 +5,10 @@ use Rattle.sheet.proofs.sizing.size_parts.Given as goal
 
 abbrev pub invariant-loop-command : goal.invariant-loop-command
 invariant-loop-command g l =
-    string_bytes l.out ++ lines_from l.reader.end (sizing g.P.Part.MOST l.sizes.all l.sizes.p) l.reader.rest.now
-    ≡ string_bytes l.initial.out ++ lines_from l.initial.reader.end (sizing g.P.Part.MOST (replicate 16 0) 0) l.initial.reader.rest.now
+    let p = l.progress in
+    let q = l.initial.progress in
+    string_bytes p.lines ++ lines_from p.end (sizing g.P.Part.MOST l.sizes.all l.sizes.p) p.rest.now
+    ≡ string_bytes q.lines ++ lines_from q.end (sizing g.P.Part.MOST (replicate 16 0) 0) q.rest.now
 
 abbrev pub decreases-loop-command : goal.decreases-loop-command
-decreases-loop-command g l = length l.reader.rest.now
+decreases-loop-command g l = length l.progress.rest.now
