@@ -5,7 +5,7 @@ ghost use Rattle.sheet.specs.Bench.{Small};
 use session::Table;
 use table::card::Card;
 
-/// The areas of the bench.
+/// The areas of the bench. Cards and numbers lie beside the parts, and not with them, as the calls of the session take them.
 #[derive(Drop)]
 pub(crate) struct Areas<P> {
     pub(crate) universe: Vec<P>,
@@ -18,7 +18,7 @@ pub(crate) struct Areas<P> {
     pub(crate) numbers: Vec<usize>,
 }
 
-/// The parts that are declared: how many, and their sizes, with zeros past them.
+/// The parts that are declared: how many, and their sizes, with zeros past them. `begin` of the session takes both.
 #[derive(Drop)]
 pub(crate) struct Sizes {
     pub(crate) all: [usize; 16],
@@ -27,7 +27,8 @@ pub(crate) struct Sizes {
     ghost small: { Small all },
 }
 
-/// A table that is being filled, with the parts declared, the universe as a row of words, and the row in hand.
+/// A table that is being filled, with the parts declared, the universe as a row of words, and the row in hand: `add` of the session takes
+/// sixteen words.
 pub(crate) struct Draft {
     pub(crate) table: Table,
     pub(crate) p: usize,
