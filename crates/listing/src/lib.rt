@@ -125,7 +125,8 @@ fn text_of(heap: Global, bytes: &[u8]) -> Result<String, AllocError>
     String::from_str(heap, text)
 }
 
-/// The text of `cube`, with no newline. It is written by `write_cube`, which asks for lent bytes, so that a cube is shown in one way only. The cube has as many parts as the universe, at most 16.
+/// The text of `cube`, with no newline. The cube has as many parts as the universe, at most 16.
+/// `write_cube` writes it, which asks for lent bytes, so that there is one way to show a cube.
 pub fn cube_text<P: Part>(heap: Global, universe: &[P], cube: &[P]) -> Result<String, AllocError>
     requires parts { length universe.now ≡ length cube.now }
     requires few { length cube.now ≤ 16 }

@@ -48,9 +48,6 @@ cause_read (Err cause) f e = (cause, refl, cc)
 
 -- and what is printed from there on, with the offset and the bytes behind
 module _ (end : ℕ) (s : State) (bs : List ℕ) where
-  pub lines_end : Ok None ≡ result_map_both (λ o. o) by_sheet (reading bs) → lines_from end s bs ≡ []
-  lines_end e = rw (command_read (reading bs) None e)
-
   pub lines_unread : (f : Fault) (at : ℕ) → Err f ≡ result_map_both (λ o. o) by_sheet (reading bs) → at ≡ end - length bs → lines_from end s bs ≡ refusal_line f at
   lines_unread f at e h =
       let c = cause_read (reading bs) f e in

@@ -3,7 +3,7 @@ use Rattle.std.proofs.lemmas.Result.{err_from_is_err_and}
 use Rattle.sheet.specs.Bench.{Step, sizing, begins}
 use Rattle.sheet.specs.Lines.{obeyed, after_step, lines_from}
 use Rattle.sheet.specs.Views.{Ends}
-use Rattle.sheet.proofs.Steps.{lines_end, lines_unread, lines_read, lines_on, lines_stop}
+use Rattle.sheet.proofs.Steps.{lines_unread, lines_read, lines_on, lines_stop}
 use Rattle.sheet.proofs.sizing.size_parts.Goals as goal
 
 pub loop-command-init : goal.loop-command-init
@@ -57,10 +57,3 @@ returns-in-Some-2 g c =
     let step : begun ≡ obeyed s command = search rules in
     let moved = ap (λ e. out ++ after_step (λ t. lines_from e t after.rest.now) after.at begun) c.next.ensures.end ∙ ap (λ r. out ++ after_step (λ t. lines_from p.end t after.rest.now) after.at r) step ∙ all in
     subst (λ l. Ends c.fill_table.result c.fill_table.new.progress l) moved c.fill_table.ensures
-
-pub returns : goal.returns
-returns g c =
-    let p = c.loop-command.progress in
-    let out = string_bytes c.next.new.self.lines in
-    let end = lines_end p.end (sizing g.P.Part.MOST c.loop-command.sizes.all c.loop-command.sizes.p) p.rest.now (search rules) in
-    sym (append-nil out) ∙ ap₂ (λ (a b : List ℕ). a ++ b) c.next.ensures.lines (sym end) ∙ c.loop-command.invariant
