@@ -24,7 +24,7 @@ pub enum Command {
 }
 
 impl Command {
-    /// The letter.
+    /// The letter. It is a method and no `From`, since a command is more than its letter.
     pub fn byte(self) -> u8
         ensures { result ≡ letter self }
     {
@@ -68,8 +68,6 @@ pub fn read(bytes: &[u8]) -> Result<Option<(Command, &[u8])>, Cause>
 }
 
 /// A theorem on the definitions: a command that is written is read, whatever follows it.
-pub fn read_back() -> u8
+pub fn read_back()
     ensures { ReadBack }
-{
-    0
-}
+{}

@@ -3,11 +3,9 @@ use Rattle.std.proofs.Common.{◌≡◌, ℕ, ◌+◌, ◌<◌, ◌≤◌, List,
 use Rattle.std.proofs.lemmas.List.{append_assoc, append-nil, length-append, length-take-le, length_push, take_at, drop_at, drop-drop, set_split, take-append-drop}
 use Rattle.cubes.specs.Areas.{overlay}
 use Rattle.cubes.proofs.Flat.{length-overlay}
+use Rattle.listing.specs.declared.Line.{Line}
 use Rattle.listing.specs.Text.{placed, Wrote}
-
--- the same, by other names
-pub wrote_same : {at : ℕ} {xs ys zs after last : List ℕ} {mid end : ℕ} → Wrote at ys xs after mid → zs ≡ ys → last ≡ after → end ≡ mid → Wrote at zs xs last end
-wrote_same w p q r = rw (p, q, r) w
+use Rattle.listing.specs.Lines.{Appended}
 
 -- ---- after what was written from the start
 
@@ -59,9 +57,23 @@ module _ (at : ℕ) (ys xs after : List ℕ) (mid : ℕ) (w : Wrote at ys xs aft
     place = omega (arith, v.place, w.place, length-append ys zs);
   }
 
--- one byte more
-pub wrote_push : (at : ℕ) (ys xs after : List ℕ) (mid : ℕ) → Wrote at ys xs after mid → mid < length xs → (b : ℕ) → Wrote at (ys ++ b ∷ []) xs (set after mid b) (mid + 1)
-wrote_push at ys xs after mid w h b =
-    let fits : mid ≤ length xs = omega arith in
-    let n = length_wrote at ys xs after mid w fits in
-    wrote_more at ys xs after mid w fits (b ∷ []) (set after mid b) (mid + 1) (wrote_one mid after (b ∷ []) b (omega (arith, n)) refl)
+-- ---- the same of a line that is written on
+
+pub appended_none : (l : Line) → l.len ≤ length l.bytes.now → Appended [] l l
+appended_none l h = record { wrote = wrote_none l.len l.bytes.now [] h refl; lent = refl }
+
+module _ (ys : List ℕ) (l m : Line) (w : Appended ys l m) (fits : l.len + length ys ≤ length l.bytes.now) where
+  placed-mid : m.len ≤ length l.bytes.now
+  placed-mid = omega (arith, w.wrote.place)
+
+  pub length_appended : length m.bytes.now ≡ length l.bytes.now
+  length_appended = length_wrote l.len ys l.bytes.now m.bytes.now m.len w.wrote placed-mid
+
+  pub appended_more : (zs : List ℕ) (n : Line) → Appended zs m n → Appended (ys ++ zs) l n
+  appended_more zs n v = record {
+    wrote = wrote_more l.len ys l.bytes.now m.bytes.now m.len w.wrote placed-mid zs n.bytes.now n.len v.wrote;
+    lent = v.lent ∙ w.lent;
+  }
+
+pub appended_same : {ys zs : List ℕ} {l m : Line} → Appended ys l m → zs ≡ ys → Appended zs l m
+appended_same w e = rw e w

@@ -1,10 +1,10 @@
 -- The text of a cube: one part more, how long it can be, and that it is ASCII.
-use Rattle.std.proofs.Common.{◌≡◌, ℕ, zero, suc, ◌+◌, ◌-◌, ◌*◌, ◌<◌, ◌≤◌, Bool, true, false, cond, ◌||◌, eqb, ◌⊎◌, List, [], ◌∷◌, ◌++◌, map, length, get_or, take, IsAscii, sym, refl, ap, ◌∙◌, add-one, arith}
+use Rattle.std.proofs.Common.{◌≡◌, ℕ, zero, suc, ◌+◌, ◌-◌, ◌*◌, ◌<◌, ◌≤◌, Bool, true, false, cond, ◌||◌, eqb, List, [], ◌∷◌, ◌++◌, map, length, get_or, take, IsAscii, sym, refl, ap, ◌∙◌, add-one, arith}
 use Rattle.std.specs.Fmt.{digits}
 use Rattle.std.proofs.lemmas.List.{append_assoc, append-nil, length-append, length-map, length-take-le, take_more, take_all}
 use Rattle.std.proofs.lemmas.Str.Ascii.{IsAscii-nil, IsAscii-cons}
 use Rattle.std.proofs.lemmas.Str.{IsAscii-append}
-use Rattle.std.proofs.lemmas.Bool.{cond_both, cond-true, eq-eqb}
+use Rattle.std.proofs.lemmas.Bool.{cond_both}
 use Rattle.std.proofs.lemmas.Bool.Decides.{nat_tests}
 use Rattle.parts.specs.Sets.{has}
 use Rattle.cubes.specs.Cubes.{Cube}
@@ -20,17 +20,6 @@ marks_in v u s b m h e f = rw (add-one v, ← h, e, f)
 
 pub marks_out : (v u s : ℕ) → false ≡ has u v → marks (v + 1) u s ≡ marks v u s
 marks_out v u s h = rw (add-one v, ← h) (append-nil (marks v u s))
-
--- ---- by the kind's most
-
-pub part_ternary : (most u s : ℕ) → most ≡ 2 → part_text most u s ≡ ternary_mark s ∷ []
-part_ternary most u s e = cond-true (eqb most 2) _ _ (eq-eqb most 2 e)
-
-pub gap-none : (most i : ℕ) → (i ≡ 0) ⊎ (most ≡ 2) → gap most i ≡ []
-gap-none most i h = grind (arith, nat_tests)
-
-pub gap_space : (most i : ℕ) → (i ≡ 0 → ⊥) → (most ≡ 2 → ⊥) → gap most i ≡ 32 ∷ []
-gap_space most i h k = grind (arith, nat_tests)
 
 -- ---- one part more
 

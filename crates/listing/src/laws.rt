@@ -3,15 +3,11 @@ ghost use Rattle.listing.specs.Examples.{AllRight};
 ghost use Rattle.listing.specs.Theorems.{LineFits};
 
 /// The line of a cube with at most 16 parts has at most 1,040 bytes.
-pub fn line_fits() -> u8
+pub fn line_fits()
     ensures { LineFits }
-{
-    0
-}
+{}
 
 /// Cubes and headings print as the worked cases say.
-pub fn cases_are_right() -> u8
+pub fn cases_are_right()
     ensures { AllRight }
-{
-    0
-}
+{}

@@ -1,35 +1,28 @@
 //! The text of a cube, as the lines of a list have it, written into a lent slice of bytes.
 #![tactic(auto)]
 
-ghost use Rattle.std.specs.Prelude.{◌≡◌, ◌+◌, ◌<◌, ◌≤◌, map, length, IfOk, string_bytes, IsUtf8, decimal};
+ghost use Rattle.std.specs.Prelude.{◌≡◌, ◌+◌, ◌<◌, ◌≤◌, [], ◌∷◌, map, length, IfOk, string_bytes, IsUtf8, decimal};
 ghost use Rattle.cubes.specs.Areas.{overlay};
-ghost use Rattle.listing.specs.Text.{mark, marks, ternary_mark, part_text, gap, cube_text, cube_line, heading_line, Wrote};
+ghost use Rattle.listing.specs.Text.{mark, marks, ternary_mark, part_text, gap, cube_text, cube_line, heading_line};
+ghost use Rattle.listing.specs.Lines.{Appended};
 
 use parts::Part;
 use std::alloc::{AllocError, Global};
 
 pub mod laws;
 
+// A lent line, and how many of its bytes are written. What is written are bytes, and no text by `Display`: there is no heap here, and a
+// `write!` into lent bytes does not promise what they hold then.
+struct Line<'a> {
+    bytes: &'a mut [u8],
+    len: usize,
+}
+
 // The mark of a value, by whether it is a member.
 fn value_mark(member: bool) -> u8
     ensures { result ≡ mark member }
 {
     if member { b'1' } else { b'0' }
-}
-
-// A mark for each value that the universe's part `whole` has, from `at` on; the result is the place after the last.
-fn write_marks<P: Part>(whole: P, part: P, line: &mut [u8], at: usize) -> usize
-    requires { at + 64 ≤ length line.old }
-    ensures { Wrote at (marks P.MOST (P.set whole) (P.set part)) line.old line.new result }
-{
-    let mut end = at;
-    for v in 0..P::MOST {
-        if whole.contains(v) {
-            line[end] = value_mark(part.contains(v));
-            end += 1;
-        }
-    }
-    end
 }
 
 // The one mark of a part with at most the values 0 and 1.
@@ -44,29 +37,60 @@ fn ternary_mark<P: Part>(part: P) -> u8
     }
 }
 
-// A part, from `at` on; the result is the place after it.
-fn write_part<P: Part>(whole: P, part: P, line: &mut [u8], at: usize) -> usize
-    requires { at + 64 ≤ length line.old }
-    ensures { Wrote at (part_text P.MOST (P.set whole) (P.set part)) line.old line.new result }
-{
-    if P::MOST == 2 {
-        line[at] = ternary_mark(part);
-        return at + 1;
+impl Line<'_> {
+    // One byte more.
+    fn push(&mut self, byte: u8)
+        requires { self.old.len < length self.old.bytes.now }
+        ensures { Appended (byte ∷ []) self.old self.new }
+    {
+        self.bytes[self.len] = byte;
+        self.len += 1;
     }
-    write_marks(whole, part, line, at)
-}
 
-// What stands before part `i`, from `at` on; the result is the place after it.
-fn write_gap<P: Part>(i: usize, line: &mut [u8], at: usize) -> usize
-    requires { at < length line.old }
-    ensures { Wrote at (gap P.MOST i) line.old line.new result }
-{
-    let most = P::MOST;
-    if i == 0 || most == 2 {
-        return at;
+    // A mark for each value that the universe's part `whole` has.
+    fn marks<P: Part>(&mut self, whole: P, part: P)
+        requires { self.old.len + 64 ≤ length self.old.bytes.now }
+        ensures { Appended (marks P.MOST (P.set whole) (P.set part)) self.old self.new }
+    {
+        for v in 0..P::MOST {
+            if whole.contains(v) {
+                self.push(value_mark(part.contains(v)));
+            }
+        }
     }
-    line[at] = b' ';
-    at + 1
+
+    // A part.
+    fn part<P: Part>(&mut self, whole: P, part: P)
+        requires { self.old.len + 64 ≤ length self.old.bytes.now }
+        ensures { Appended (part_text P.MOST (P.set whole) (P.set part)) self.old self.new }
+    {
+        if P::MOST == 2 {
+            self.push(ternary_mark(part));
+        } else {
+            self.marks(whole, part);
+        }
+    }
+
+    // What stands before part `i`.
+    fn gap<P: Part>(&mut self, i: usize)
+        requires { self.old.len < length self.old.bytes.now }
+        ensures { Appended (gap P.MOST i) self.old self.new }
+    {
+        if i > 0 && P::MOST != 2 {
+            self.push(b' ');
+        }
+    }
+
+    // The digits of `n`. The library writes a number into lent bytes with no promise of what they hold, so they go in one by one.
+    fn decimal(&mut self, n: usize)
+        requires { self.old.len + length (decimal n) ≤ length self.old.bytes.now }
+        ensures { Appended (decimal n) self.old self.new }
+    {
+        if n >= 10 {
+            self.decimal(n / 10);
+        }
+        self.push(b'0' + (n % 10) as u8);
+    }
 }
 
 /// Writes the line of `cube`, newline included, from the start of `line`, and returns how long it is; the bytes beyond stay.
@@ -79,15 +103,17 @@ pub fn write_cube<P: Part>(universe: &[P], cube: &[P], line: &mut [u8]) -> usize
     ensures size { result ≡ length (cube_line P.MOST (map P.set universe.now) (map P.set cube.now)) }
     ensures bound { result ≤ 1040 }
 {
-    let mut end = 0;
-    for i in 0..cube.len() {
-        let whole = universe[i];
-        let part = cube[i];
-        let start = write_gap::<P>(i, line, end);
-        end = write_part(whole, part, line, start);
+    let mut text = Line {
+        bytes: line,
+        len: 0,
+    };
+    for (i, (whole, part)) in universe.iter().zip(cube).enumerate() {
+        text.gap::<P>(i);
+        text.part(*whole, *part);
     }
-    line[end] = b'\n';
-    end + 1
+    text.push(b'\n');
+    let Line { bytes: _, len } = text;
+    len
 }
 
 // A string of bytes that are text.
@@ -100,6 +126,7 @@ fn text_of(heap: Global, bytes: &[u8]) -> Result<String, AllocError>
 }
 
 /// The text of `cube`, with no newline. The cube has as many parts as the universe, at most 16.
+/// `write_cube` writes it, which asks for lent bytes, so that there is one way to show a cube.
 pub fn cube_text<P: Part>(heap: Global, universe: &[P], cube: &[P]) -> Result<String, AllocError>
     requires parts { length universe.now ≡ length cube.now }
     requires few { length cube.now ≤ 16 }
@@ -110,20 +137,6 @@ pub fn cube_text<P: Part>(heap: Global, universe: &[P], cube: &[P]) -> Result<St
     text_of(heap, &line[0..size - 1])
 }
 
-// The digits of `n`, from `at` on; the result is the place after them.
-fn write_decimal(n: usize, line: &mut [u8], at: usize) -> usize
-    requires { at + length (decimal n) ≤ length line.old }
-    ensures { Wrote at (decimal n) line.old line.new result }
-{
-    if n < 10 {
-        line[at] = b'0' + n as u8;
-        return at + 1;
-    }
-    let end = write_decimal(n / 10, line, at);
-    line[end] = b'0' + (n % 10) as u8;
-    end + 1
-}
-
 /// Writes the line before a list of `count` cubes from the start of `line`, and returns how long it is; the bytes beyond stay.
 /// `line` has at least 24 bytes.
 pub fn write_heading(count: usize, line: &mut [u8]) -> usize
@@ -132,9 +145,14 @@ pub fn write_heading(count: usize, line: &mut [u8]) -> usize
     ensures size { result ≡ length (heading_line count) }
     ensures bound { result ≤ 24 }
 {
-    line[0] = b'L';
-    line[1] = b' ';
-    let end = write_decimal(count, line, 2);
-    line[end] = b'\n';
-    end + 1
+    let mut text = Line {
+        bytes: line,
+        len: 0,
+    };
+    text.push(b'L');
+    text.push(b' ');
+    text.decimal(count);
+    text.push(b'\n');
+    let Line { bytes: _, len } = text;
+    len
 }

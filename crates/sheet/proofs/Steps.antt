@@ -1,17 +1,13 @@
 -- What is printed, one command at a time.
-use Rattle.std.proofs.Common.{◌≡◌, ℕ, zero, suc, ◌-◌, ◌<◌, List, [], ◌∷◌, ◌++◌, length, drop, IfOk, Some, None, Ok, Err, Option, Result, sym, refl, ap, ◌∙◌, ap₂, append_assoc, arith, length-drop}
-use Rattle.std.proofs.lemmas.Result.{IfOk-weaker}
+use Rattle.std.proofs.Common.{◌≡◌, ℕ, zero, suc, ◌-◌, ◌<◌, List, [], ◌∷◌, ◌++◌, length, drop, Some, None, Ok, Err, Option, Result, sym, refl, ap, ◌∙◌, ap₂, append_assoc, arith, length-drop}
+use Rattle.std.specs.Result.{result_map_both}
 use Rattle.faults.specs.Codes.{refusal_line}
 use Rattle.faults.specs.declared.Cause.{Cause}
 use Rattle.faults.specs.declared.Fault.{Fault}
 use Rattle.commands.specs.declared.Command.{Command}
 use Rattle.commands.specs.Commands.{reading, width}
-use Rattle.sheet.specs.Bench.{State, Step}
+use Rattle.sheet.specs.Bench.{State, Step, by_sheet}
 use Rattle.sheet.specs.Lines.{obeyed, after_step, after_reading, printed, lines_from}
-
--- lines that are said in another way
-pub said_so : {X Y : Type 0} (f : X → List ℕ) (r : Result X Y) (a b : List ℕ) → a ≡ b → IfOk r (λ x. f x ≡ a) → IfOk r (λ x. f x ≡ b)
-said_so f r a b e h = IfOk-weaker r (λ x. f x ≡ a) (λ x. f x ≡ b) (λ x k. k ∙ e) h
 
 -- a command that is read is not the end, so what follows it is shorter
 shorter : (bs : List ℕ) (c : Command) → reading bs ≡ Ok (Some c) → length (drop (width c) bs) < length bs
@@ -37,24 +33,45 @@ enough (suc n) (suc m) end s bs h k =
     reading-same _ _ (end - length bs) s (reading bs)
     (λ c t e. let l = shorter bs c e in enough n m end t (drop (width c) bs) (omega arith) (omega arith))
 
-module _ (end : ℕ) (s : State) (bs : List ℕ) (c : Command) (e : reading bs ≡ Ok (Some c)) where
-  pub lines_refused : (f : Fault) → obeyed s c ≡ Err f → lines_from end s bs ≡ refusal_line f (end - length bs)
-  lines_refused f h = rw (e, h)
+-- what is printed for a command at an offset, and for the bytes behind it
+abbrev pub lines_of_command : ℕ → State → ℕ → List ℕ → Command → List ℕ
+lines_of_command end s at rest c = after_step (λ t. lines_from end t rest) at (obeyed s c)
 
-  pub lines_more : (t : State) (line : List ℕ) → obeyed s c ≡ Ok (t, line) → lines_from end s bs ≡ line ++ lines_from end t (drop (width c) bs)
-  lines_more t line h =
-      let l = shorter bs c e in
-      let rest : printed (length bs) end t (drop (width c) bs) ≡ lines_from end t (drop (width c) bs) =
-      enough (length bs) (suc (length (drop (width c) bs))) end t (drop (width c) bs) l (omega arith) in
-      rw (e, h) (ap (λ l. line ++ l) rest)
+-- what was read, from what the reader answers
+command_read : (r : Result (Option Command) Cause) (o : Option Command) → Ok o ≡ result_map_both (λ o. o) by_sheet r → r ≡ Ok o
+command_read (Ok o) p e = cc
+command_read (Err cause) p e = cc
 
-  -- the same after the lines so far
-  pub lines_on : (t : State) (line out next all rest : List ℕ) → obeyed s c ≡ Ok (t, line) → next ≡ out ++ line → rest ≡ drop (width c) bs
-      → out ++ lines_from end s bs ≡ all → next ++ lines_from end t rest ≡ all
-  lines_on t line out next all rest h a r k =
-      ap₂ (λ (n r : List ℕ). n ++ lines_from end t r) a r
-      ∙ append_assoc out line (lines_from end t (drop (width c) bs)) ∙ ap (λ l. out ++ l) (sym (lines_more t line h)) ∙ k
+cause_read : (r : Result (Option Command) Cause) (f : Fault) → Err f ≡ result_map_both (λ o. o) by_sheet r → (cause : Cause) × (r ≡ Err cause) × (f ≡ by_sheet cause)
+cause_read (Ok o) f e = absurd (cc)
+cause_read (Err cause) f e = (cause, refl, cc)
 
-  -- two states in which the command does the same
-  pub lines_same : (t : State) → obeyed s c ≡ obeyed t c → lines_from end s bs ≡ lines_from end t bs
-  lines_same t h = rw (e, h)
+-- and what is printed from there on, with the offset and the bytes behind
+module _ (end : ℕ) (s : State) (bs : List ℕ) where
+  pub lines_unread : (f : Fault) (at : ℕ) → Err f ≡ result_map_both (λ o. o) by_sheet (reading bs) → at ≡ end - length bs → lines_from end s bs ≡ refusal_line f at
+  lines_unread f at e h =
+      let c = cause_read (reading bs) f e in
+      ap (after_reading (λ c t. printed (length bs) end t (drop (width c) bs)) (end - length bs) s) c.1
+      ∙ ap₂ refusal_line (sym c.2) (sym h)
+
+  pub lines_read : (c : Command) (at : ℕ) (rest : List ℕ) → Ok (Some c) ≡ result_map_both (λ o. o) by_sheet (reading bs) → at ≡ end - length bs → rest ≡ drop (width c) bs
+      → lines_from end s bs ≡ lines_of_command end s at rest c
+  lines_read c at rest e h k =
+      let r = command_read (reading bs) (Some c) e in
+      let l = shorter bs c r in
+      ap (after_reading (λ c t. printed (length bs) end t (drop (width c) bs)) (end - length bs) s) r
+      ∙ step_same (λ t. printed (length bs) end t (drop (width c) bs)) (λ t. lines_from end t (drop (width c) bs)) (end - length bs) (obeyed s c)
+      (λ t. enough (length bs) (suc (length (drop (width c) bs))) end t (drop (width c) bs) l (omega arith))
+      ∙ ap₂ (λ (a : ℕ) (xs : List ℕ). after_step (λ t. lines_from end t xs) a (obeyed s c)) (sym h) (sym k)
+
+-- what is printed after a command that was obeyed
+pub lines_on :
+    (end at : ℕ) (rest : List ℕ) (r : Step) (t : State) (line out next all : List ℕ) (last : ℕ) (left : List ℕ) → Ok (t, line) ≡ r → next ≡ out ++ line
+    → last ≡ end → left ≡ rest → out ++ after_step (λ t. lines_from end t rest) at r ≡ all → next ++ lines_from last t left ≡ all
+lines_on end at rest r t line out next all last left e n k l h =
+    ap₂ (λ (a : ℕ) (b : List ℕ). next ++ lines_from a t b) k l
+    ∙ ap (λ l. l ++ lines_from end t rest) n ∙ append_assoc out line (lines_from end t rest) ∙ ap (λ r. out ++ after_step (λ t. lines_from end t rest) at r) e ∙ h
+
+-- where the command was refused
+pub lines_stop : (end at : ℕ) (rest : List ℕ) (r : Step) (f : Fault) (out all : List ℕ) → Err f ≡ r → out ++ after_step (λ t. lines_from end t rest) at r ≡ all → out ++ refusal_line f at ≡ all
+lines_stop end at rest r f out all e h = ap (λ r. out ++ after_step (λ t. lines_from end t rest) at r) e ∙ h

@@ -1,5 +1,5 @@
 -- The bench: the areas that it has, the states of a sheet, and what each command does there. All is made of what the calls answer and leave.
-use Rattle.std.specs.Prelude.{ℕ, ◌+◌, ◌-◌, ◌*◌, cond, ◌||◌, List, [], ◌++◌, map, replicate, Ok, Err, codes, decimal, Result, ◌==◌, nat_le, nat_lt, slice_set}
+use Rattle.std.specs.Prelude.{ℕ, ◌+◌, ◌-◌, ◌*◌, ◌≤◌, cond, ◌||◌, List, [], ◌++◌, map, replicate, Ok, Err, codes, decimal, Result, ◌==◌, nat_le, nat_lt, slice_index, slice_set}
 use Rattle.faults.specs.declared.Cause.{Cause}
 use Rattle.faults.specs.declared.Cause.TheVariants.{Misplaced, Operand, Shape}
 use Rattle.faults.specs.declared.Fault.{Fault}
@@ -85,6 +85,10 @@ after_open m o =
       work = o.work;
       numbers = o.numbers;
     }
+
+-- sizes for which a word has a bit for each value
+abbrev pub Small : List ℕ → Type 0
+Small sizes = (k : ℕ) → slice_index sizes k ≤ 64
 
 -- a table that is being filled: its numbers, the parts declared, the universe as a row of words, and the row in hand, both of sixteen words
 pub record Drafted : Type 0 where

@@ -1,21 +1,21 @@
 -- What the code holds, as states of the bench.
-use Rattle.std.specs.Prelude.{ℕ, ◌+◌, ◌-◌, ◌≤◌, List, [], map, length, replicate, Ok, Err, vec_items, Result, slice_index}
+use Rattle.std.specs.Prelude.{◌≡◌, ℕ, List, [], ◌++◌, map, replicate, Some, None, Ok, Err, string_bytes, vec_items, Option, Result}
 use Rattle.faults.specs.declared.Fault.{Fault}
 use Rattle.commands.specs.declared.Command.{Command}
 use Rattle.faults.specs.Codes.{refusal_line}
 use Rattle.session.specs.States as session
 use Rattle.sheet.specs.declared.types.Areas.{Areas}
 use Rattle.sheet.specs.declared.types.Draft.{Draft}
-use Rattle.sheet.specs.declared.types.Kind.{Kind}
-use Rattle.sheet.specs.declared.types.Kind.TheVariants as kind
-use Rattle.sheet.specs.declared.types.Next.{Next}
-use Rattle.sheet.specs.declared.types.Next.TheVariants as next
-use Rattle.sheet.specs.declared.types.Said.{Said}
-use Rattle.sheet.specs.declared.types.Said.TheVariants as said
-use Rattle.sheet.specs.declared.types.Stage.{Stage}
-use Rattle.sheet.specs.declared.types.Stage.TheVariants as stage
+use Rattle.sheet.specs.declared.progress.Progress.{Progress}
+use Rattle.sheet.specs.declared.types.Sizes.{Sizes}
+use Rattle.sheet.specs.declared.stage.Stage.{Stage}
+use Rattle.sheet.specs.declared.stage.Stage.TheVariants as stage
+use Rattle.sheet.specs.declared.types.Tally.{Tally}
+use Rattle.sheet.specs.declared.starting.Kind.{Kind}
+use Rattle.sheet.specs.declared.starting.Kind.TheVariants as kind
+use Rattle.sheet.specs.declared.stop.Stop.{Stop}
+use Rattle.sheet.specs.declared.stop.Stop.TheVariants as stop
 use Rattle.sheet.specs.Bench.{Memory, Drafted, State, sizing, filling, opened, Step, begins, open_line}
-use Rattle.sheet.specs.Lines.{lines_from}
 
 abbrev pub memory : {P : Type 0} → (P → ℕ) → Areas P → Memory
 memory set a =
@@ -38,13 +38,9 @@ state most (stage.Filling d) m = filling most (drafted d) m
 state most (stage.Opened o) m = opened (session.opened o) m
 
 -- what is printed
-abbrev pub said_line : Said → List ℕ
-said_line said.Nothing = []
-said_line (said.Opened on off) = open_line on off
-
--- sizes for which a word has a bit for each value
-abbrev pub Small : List ℕ → Type 0
-Small sizes = (k : ℕ) → slice_index sizes k ≤ 64
+abbrev pub said_line : Option Tally → List ℕ
+said_line None = []
+said_line (Some t) = open_line t.on t.off
 
 -- What a function answered, with what it left: in state 0 nothing, in state 1 the sizes, to Begin and to a command in state 2 or 3 the areas
 abbrev pub chosen : Result Kind Fault → Step
@@ -52,20 +48,25 @@ chosen (Ok kind.Word) = Ok (sizing 64 (replicate 16 0) 0, [])
 chosen (Ok kind.Ternary) = Ok (sizing 2 (replicate 16 0) 0, [])
 chosen (Err f) = Err f
 
-abbrev pub sized : ℕ → ℕ → Command → Result Next Fault → List ℕ → Step
-sized most p c (Ok next.Part) sizes = Ok (sizing most sizes (p + 1), [])
-sized most p c (Ok next.Table) sizes = begins most sizes p c
-sized most p c (Err f) sizes = Err f
+abbrev pub declared : ℕ → Result (Unit {0}) Fault → Sizes → Step
+declared most (Ok done) s = Ok (sizing most s.all s.p, [])
+declared most (Err f) s = Err f
+
+abbrev pub sized : ℕ → Result (Option Command) Fault → Sizes → Step
+sized most (Ok None) s = Ok (sizing most s.all s.p, [])
+sized most (Ok (Some c)) s = begins most s.all s.p c
+sized most (Err f) s = Err f
 
 abbrev pub draft : Result Draft Fault → Memory → Result (Drafted × Memory) Fault
 draft (Ok d) m = Ok (drafted d, m)
 draft (Err f) m = Err f
 
-abbrev pub step : ℕ → Result (Stage × Said) Fault → Memory → Step
+abbrev pub step : ℕ → Result (Stage × Option Tally) Fault → Memory → Step
 step most (Ok r) m = Ok (state most r.0 m, said_line r.1)
 step most (Err f) m = Err f
 
--- the lines from where the table begins, or Begin refuses
-abbrev pub lines_begun : ℕ → ℕ → Result (Drafted × Memory) Fault → List ℕ → List ℕ
-lines_begun end most (Ok b) bytes = lines_from end (filling most b.0 b.1) bytes
-lines_begun end most (Err f) bytes = refusal_line f (end - length bytes)
+-- what is printed where a sheet is obeyed to its end or to a refusal, with the lines so far; nothing is said of want of memory
+abbrev pub Ends : Result (Unit {0}) Stop → Progress → List ℕ → Type 0
+Ends (Ok done) p lines = string_bytes p.lines ≡ lines
+Ends (Err (stop.Refused f)) p lines = string_bytes p.lines ++ refusal_line f p.at ≡ lines
+Ends (Err (stop.Memory e)) p lines = Unit {0}

@@ -1,15 +1,16 @@
 //! The calls in the bench's areas.
 ghost use Rattle.std.specs.Prelude.{◌≡◌, ◌≤◌, replicate, IfOk};
-ghost use Rattle.session.specs.States as session;
 ghost use Rattle.sheet.specs.Bench.{fresh, in_hand, beginning, adding, opening_table};
-ghost use Rattle.sheet.specs.Views.{Small, memory, drafted, draft, step};
+ghost use Rattle.sheet.specs.Views.{memory, drafted, draft, step};
 
-use crate::types::{Areas, Draft, Said, Stage};
-use faults::Fault;
+use crate::refusing::refused;
+use crate::stage::Stage;
+use crate::types::{Areas, Draft, Sizes, Tally};
+use faults::{Fault, Kind};
 use parts::{Part, whole};
-use session::{Table, add, begin, open};
+use session::{add, begin, open};
 use std::alloc::{AllocError, Global};
-use table::card::{Card, Kind};
+use table::card::Card;
 
 const PARTS: usize = 8;
 
@@ -19,14 +20,12 @@ const CUBES: usize = 32;
 
 const OFFS: usize = 128;
 
-// So many of a thing.
+// So many of a thing. `vec!` would clone, and a clone at a type parameter need not be equal.
 fn repeated<T: Copy>(heap: Global, x: T, n: usize) -> Result<Vec<T>, AllocError>
     ensures { IfOk result (λ v. v.items ≡ replicate n x) }
 {
     let mut all = Vec::new(heap);
-    for _i in 0..n {
-        all.push(x)?;
-    }
+    all.resize(n, x)?;
     Ok(all)
 }
 
@@ -58,103 +57,88 @@ pub(crate) fn fresh_areas<P: Part>(heap: Global, p: usize) -> Result<Areas<P>, A
     })
 }
 
-// The universe as a row of words.
-fn in_hand(sizes: &[usize; 16]) -> [u64; 16]
-    requires { Small sizes.now }
-    ensures { result ≡ in_hand sizes.now }
-{
-    let mut row = [0; 16];
-    for k in 0..16 {
-        row[k] = whole(sizes[k]);
-    }
-    row
-}
-
-/// Begins the table; the universe is in hand.
-pub(crate) fn begin_table<P: Part>(
-    p: usize,
-    sizes: &[usize; 16],
-    areas: &mut Areas<P>,
-) -> Result<Draft, Fault>
-    requires few { p ≤ 16 }
-    requires small { Small sizes.now }
-    ensures { draft result (memory P.set areas.new) ≡ beginning P.MOST sizes.now p (memory P.set areas.old) }
-{
-    let table = begin(p, sizes, &mut areas.universe)?;
-    let row = in_hand(sizes);
-    Ok(Draft {
-        table,
-        p,
-        full: row,
-        row,
-    })
-}
-
-/// Adds the row in hand. The next one starts from the universe again.
-pub(crate) fn add_row<P: Part>(
-    d: Draft,
-    kind: Kind,
-    areas: &mut Areas<P>,
-) -> Result<(Stage, Said), Fault>
-    ensures { step P.MOST result (memory P.set areas.new) ≡ adding P.MOST (drafted d) kind (memory P.set areas.old) }
-{
-    let Draft {
-        table,
-        p,
-        full,
-        row,
-    } = d;
-    match add(
-        table,
-        kind,
-        &row,
-        &areas.universe,
-        &mut areas.table,
-        &mut areas.rows,
-    ) {
-        Ok(table) => {
-            let next = Draft {
-                table,
-                p,
-                full,
-                row: full,
-            };
-            Ok((Stage::Filling(next), Said::Nothing))
-        }
-        Err(e) => {
-            let (table, fault) = e;
-            let _ = table.close();
-            Err(fault)
-        }
+impl Sizes {
+    // The universe as a row of words.
+    fn words(&self) -> [u64; 16]
+        ensures { result ≡ in_hand self.now.all }
+    {
+        self.all.map(whole)
     }
 }
 
-/// Opens the table.
-pub(crate) fn open_table<P: Part>(t: Table, areas: &mut Areas<P>) -> Result<(Stage, Said), Fault>
-    ensures { step P.MOST result (memory P.set areas.new) ≡ opening_table (session.filling t) (memory P.set areas.old) }
-{
-    match open(
-        t,
-        &areas.universe,
-        &areas.table,
-        &areas.rows,
-        &mut areas.off,
-        &mut areas.solution,
-        &mut areas.cards,
-        &mut areas.work,
-        &mut areas.numbers,
-    ) {
-        Ok(o) => {
-            let said = Said::Opened {
-                on: o.cubes(),
-                off: o.off_cubes(),
-            };
-            Ok((Stage::Opened(o), said))
-        }
-        Err(e) => {
-            let (t, fault) = e;
-            let _ = t.close();
-            Err(fault)
-        }
+impl Draft {
+    /// Begins the table; the universe is in hand.
+    pub(crate) fn begin<P: Part>(sizes: &Sizes, areas: &mut Areas<P>) -> Result<Draft, Fault>
+        ensures { draft result (memory P.set areas.new) ≡ beginning P.MOST sizes.now.all sizes.now.p (memory P.set areas.old) }
+    {
+        let table = begin(sizes.p, &sizes.all, &mut areas.universe)?;
+        let row = sizes.words();
+        Ok(Draft {
+            table,
+            p: sizes.p,
+            full: row,
+            row,
+        })
+    }
+
+    /// Adds the row in hand. The next one starts from the universe again.
+    pub(crate) fn add<P: Part>(
+        self,
+        kind: Kind,
+        areas: &mut Areas<P>,
+    ) -> Result<(Stage, Option<Tally>), Fault>
+        ensures { step P.MOST result (memory P.set areas.new) ≡ adding P.MOST (drafted self) kind (memory P.set areas.old) }
+    {
+        let Draft {
+            table,
+            p,
+            full,
+            row,
+        } = self;
+        let added = add(
+            table,
+            kind,
+            &row,
+            &areas.universe,
+            &mut areas.table,
+            &mut areas.rows,
+        );
+        let table = added.map_err(refused)?;
+        let next = Draft {
+            table,
+            p,
+            full,
+            row: full,
+        };
+        Ok((Stage::Filling(next), None))
+    }
+
+    /// Opens the table.
+    pub(crate) fn open<P: Part>(self, areas: &mut Areas<P>) -> Result<(Stage, Option<Tally>), Fault>
+        ensures { step P.MOST result (memory P.set areas.new) ≡ opening_table (drafted self).table (memory P.set areas.old) }
+    {
+        let Draft {
+            table,
+            p: _,
+            full: _,
+            row: _,
+        } = self;
+        let opened = open(
+            table,
+            &areas.universe,
+            &areas.table,
+            &areas.rows,
+            &mut areas.off,
+            &mut areas.solution,
+            &mut areas.cards,
+            &mut areas.work,
+            &mut areas.numbers,
+        );
+        let opened = opened.map_err(refused)?;
+        let tally = Tally {
+            on: opened.cubes(),
+            off: opened.off_cubes(),
+        };
+        Ok((Stage::Opened(opened), Some(tally)))
     }
 }

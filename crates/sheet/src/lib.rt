@@ -3,21 +3,26 @@
 
 mod areas;
 mod filling;
+mod progress;
+mod refusing;
 mod sizing;
 mod stage;
 mod starting;
+mod stop;
 mod types;
 
-ghost use Rattle.std.specs.Prelude.{◌≡◌, length, IfOk, string_bytes, nat_lt};
-ghost use Rattle.sheet.specs.Lines.{lines_of};
+ghost use Rattle.std.specs.Prelude.{◌≡◌, ◌++◌, length, IfOk, string_bytes, nat_lt};
+ghost use Rattle.sheet.specs.Bench as bench;
+ghost use Rattle.sheet.specs.Lines.{lines_from, lines_of};
+ghost use Rattle.sheet.specs.Views.{Ends};
 
-use commands::read;
 use faults::{Cause, Layer};
 use parts::{Ternary, Word};
+use progress::Progress;
 use sizing::size_parts;
-use starting::choose;
+use starting::{Kind, choose};
 use std::alloc::{AllocError, Global};
-use types::Kind;
+use stop::Stop;
 
 /// The most bytes of a sheet.
 pub const SHEET_MOST: usize = 4096;
@@ -29,6 +34,19 @@ fn is_long(sheet: &[u8]) -> bool
     sheet.len() > SHEET_MOST
 }
 
+// Obeys a sheet from its start.
+fn obey(progress: &mut Progress<'_>) -> Result<(), Stop>
+    ensures { Ends result progress.new (string_bytes progress.old.lines ++ lines_from progress.old.end bench.start progress.old.rest.now) }
+{
+    let Some(command) = progress.next()? else {
+        return Ok(());
+    };
+    match choose(command)? {
+        Kind::Word => size_parts::<Word>(progress),
+        Kind::Ternary => size_parts::<Ternary>(progress),
+    }
+}
+
 /// The lines for a sheet, newlines included, up to the first refusal. Want of memory is the only error.
 pub fn lines(heap: Global, sheet: &[u8]) -> Result<String, AllocError>
     ensures { IfOk result (λ s. string_bytes s ≡ lines_of sheet.now) }
@@ -36,13 +54,16 @@ pub fn lines(heap: Global, sheet: &[u8]) -> Result<String, AllocError>
     if is_long(sheet) {
         return Cause::Long.by(Layer::Sheet).line(heap, 0);
     }
-    match read(sheet) {
-        Ok(None) => Ok(String::new(heap)),
-        Err(cause) => cause.by(Layer::Sheet).line(heap, 0),
-        Ok(Some((command, rest))) => match choose(command) {
-            Err(fault) => fault.line(heap, 0),
-            Ok(Kind::Word) => size_parts::<Word>(heap, rest, sheet.len()),
-            Ok(Kind::Ternary) => size_parts::<Ternary>(heap, rest, sheet.len()),
-        },
+    let mut progress = Progress::new(heap, sheet);
+    let ended = obey(&mut progress);
+    let Progress { mut lines, at, .. } = progress;
+    match ended {
+        Ok(()) => Ok(lines),
+        Err(Stop::Refused(fault)) => {
+            let line = fault.line(heap, at)?;
+            lines.push_str(line.as_str())?;
+            Ok(lines)
+        }
+        Err(Stop::Memory(e)) => Err(e),
     }
 }

@@ -1,90 +1,78 @@
 //! State 1: the kind is known, and parts are declared.
-ghost use Rattle.std.specs.Prelude.{◌≡◌, ◌<◌, ◌≤◌, length, replicate, IfOk, Ok, string_bytes, OnOk};
+ghost use Rattle.std.specs.Prelude.{◌≡◌, ◌++◌, replicate, string_bytes};
 ghost use Rattle.sheet.specs.Bench.{sizing, part_declared, at_sizing};
 ghost use Rattle.sheet.specs.Lines.{lines_from};
-ghost use Rattle.sheet.specs.Views.{Small, sized};
+ghost use Rattle.sheet.specs.Views.{Ends, declared, sized};
 
 use crate::filling::fill_table;
-use crate::stage::misplaced;
-use crate::types::Next;
-use commands::{Command, read};
+use crate::progress::Progress;
+use crate::refusing::misplaced;
+use crate::stop::Stop;
+use crate::types::Sizes;
+use commands::Command;
 use faults::{Cause, Fault, Layer, State};
 use parts::Part;
-use std::alloc::{AllocError, Global};
 
-// Declares one part more, after `p` of them.
-fn declare<P: Part>(sizes: &mut [usize; 16], p: usize, size: u8) -> Result<Next, Fault>
-    requires few { p ≤ 16 }
-    requires small { Small sizes.old }
-    ensures step { sized P.MOST p (Command.Size size) result sizes.new ≡ part_declared P.MOST sizes.old p size }
-    ensures few { OnOk result (p < 16) }
-    ensures small { Small sizes.new }
-{
-    let size = size as usize;
-    if p >= 16 {
-        let cause = Cause::Shape {
-            first: p + 1,
-            second: 0,
-        };
-        return Err(cause.by(Layer::Table));
+impl Sizes {
+    // No part.
+    fn new() -> Sizes
+        ensures all { result.all ≡ replicate 16 0 }
+        ensures p { result.p ≡ 0 }
+    {
+        Sizes { all: [0; 16], p: 0 }
     }
-    if size < 1 || size > P::MOST as usize {
-        let cause = Cause::Shape {
-            first: p,
-            second: size,
-        };
-        return Err(cause.by(Layer::Table));
-    }
-    sizes[p] = size;
-    Ok(Next::Part)
-}
 
-// A command in state 1, where `p` parts are declared.
-fn size<P: Part>(sizes: &mut [usize; 16], p: usize, command: Command) -> Result<Next, Fault>
-    requires few { p ≤ 16 }
-    requires small { Small sizes.old }
-    ensures step { sized P.MOST p command result sizes.new ≡ at_sizing P.MOST sizes.old p command }
-    ensures few { result ≡ Ok Next.Part → p < 16 }
-    ensures small { Small sizes.new }
-{
-    match command {
-        Command::Kind(_) => Err(misplaced(command, State::Sizing)),
-        Command::Size(size) => declare::<P>(sizes, p, size),
-        Command::Value { part, .. } => {
-            if part as usize >= p {
-                return Err(Cause::Operand { value: part }.by(Layer::Sheet));
+    // Declares one part more. A seventeenth is refused before its size is looked at.
+    fn declare<P: Part>(&mut self, size: u8) -> Result<(), Fault>
+        ensures { declared P.MOST result self.new ≡ part_declared P.MOST self.old.all self.old.p size }
+    {
+        let size = size as usize;
+        if self.p >= 16 {
+            let cause = Cause::Shape {
+                first: self.p + 1,
+                second: 0,
+            };
+            return Err(cause.by(Layer::Table));
+        }
+        if size < 1 || size > P::MOST as usize {
+            let cause = Cause::Shape {
+                first: self.p,
+                second: size,
+            };
+            return Err(cause.by(Layer::Table));
+        }
+        self.all[self.p] = size;
+        self.p += 1;
+        Ok(())
+    }
+
+    // Obeys a command, or hands it back where it begins the table.
+    fn obey<P: Part>(&mut self, command: Command) -> Result<Option<Command>, Fault>
+        ensures { sized P.MOST result self.new ≡ at_sizing P.MOST self.old.all self.old.p command }
+    {
+        match command {
+            Command::Kind(_) => Err(misplaced(command, State::Sizing)),
+            Command::Size(size) => {
+                self.declare::<P>(size)?;
+                Ok(None)
             }
-            Ok(Next::Table)
+            Command::Value { part, .. } if part as usize >= self.p => Err(Cause::Operand {
+                value: part,
+            }.by(Layer::Sheet)),
+            Command::Value { .. } | Command::On | Command::Dc | Command::Open => Ok(Some(command)),
         }
-        Command::On | Command::Dc | Command::Open => Ok(Next::Table),
     }
 }
 
-/// The lines from the bytes after the kind on.
-pub(crate) fn size_parts<P: Part>(
-    heap: Global,
-    bytes: &[u8],
-    end: usize,
-) -> Result<String, AllocError>
-    requires { length bytes.now ≤ end }
-    ensures { IfOk result (λ s. string_bytes s ≡ lines_from end (sizing P.MOST (replicate 16 0) 0) bytes.now) }
+/// Obeys the commands after the kind.
+pub(crate) fn size_parts<P: Part>(progress: &mut Progress<'_>) -> Result<(), Stop>
+    ensures { Ends result progress.new (string_bytes progress.old.lines ++ lines_from progress.old.end (sizing P.MOST (replicate 16 0) 0) progress.old.rest.now) }
 {
-    let mut sizes = [0; 16];
-    let mut p = 0;
-    let mut bytes = bytes;
-    loop {
-        let at = end - bytes.len();
-        match read(bytes) {
-            Ok(None) => return Ok(String::new(heap)),
-            Err(cause) => return cause.by(Layer::Sheet).line(heap, at),
-            Ok(Some((command, rest))) => match size::<P>(&mut sizes, p, command) {
-                Err(fault) => return fault.line(heap, at),
-                Ok(Next::Table) => return fill_table::<P>(heap, p, &sizes, bytes, end),
-                Ok(Next::Part) => {
-                    p += 1;
-                    bytes = rest;
-                }
-            },
+    let mut sizes = Sizes::new();
+    while let Some(command) = progress.next()? {
+        if let Some(command) = sizes.obey::<P>(command)? {
+            return fill_table::<P>(&sizes, command, progress);
         }
     }
+    Ok(())
 }

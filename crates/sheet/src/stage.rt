@@ -1,31 +1,25 @@
-//! The end of a state, what is printed, and refusals.
-ghost use Rattle.std.specs.Prelude.{◌≡◌, ◌++◌, IfOk, string_bytes};
-ghost use Rattle.faults.specs.Codes.{refusal_line};
-ghost use Rattle.commands.specs.Commands.{letter};
-ghost use Rattle.sheet.specs.Bench.{by_sheet};
-ghost use Rattle.sheet.specs.Views.{said_line};
+//! States 2 and 3: a table is being filled, or a session is open.
+ghost use Rattle.std.specs.Prelude.{◌≡◌, Some};
+ghost use Rattle.sheet.specs.Bench.{open_line};
+ghost use Rattle.sheet.specs.Lines.{obeyed};
+ghost use Rattle.sheet.specs.Views.{memory, state, step};
 
-use crate::types::{Draft, Said, Stage};
+use crate::refusing::misplaced;
+use crate::types::{Areas, Draft, Tally};
 use commands::Command;
-use faults::{Cause, Fault, Layer, State};
-use std::alloc::{AllocError, Global};
+use faults::{Fault, State};
+use parts::Part;
+use session::Open;
+use std::fmt;
 
-impl Draft {
-    /// Ends the table.
-    pub(crate) fn close(self) {
-        let Draft {
-            table,
-            p: _,
-            full: _,
-            row: _,
-        } = self;
-        let _ = table.close();
-    }
+/// A table that is being filled, or an open session. A stage that is let go ends what it holds.
+pub(crate) enum Stage {
+    Filling(Draft),
+    Opened(Open),
 }
 
-impl Stage {
-    /// Ends what it holds.
-    pub(crate) fn close(self) {
+impl Drop for Stage {
+    fn drop(self) {
         match self {
             Stage::Filling(draft) => draft.close(),
             Stage::Opened(open) => {
@@ -35,43 +29,30 @@ impl Stage {
     }
 }
 
-impl Said {
-    /// The lines so far, and the one that this prints.
-    pub(crate) fn after(self, heap: Global, mut out: String) -> Result<String, AllocError>
-        ensures { IfOk result (λ s. string_bytes s ≡ string_bytes out ++ said_line self) }
+impl Stage {
+    /// A command in state 2 or 3.
+    pub(crate) fn obey<P: Part>(
+        self,
+        command: Command,
+        areas: &mut Areas<P>,
+    ) -> Result<(Stage, Option<Tally>), Fault>
+        ensures { step P.MOST result (memory P.set areas.new) ≡ obeyed (state P.MOST self (memory P.set areas.old)) command }
     {
         match self {
-            Said::Nothing => Ok(out),
-            Said::Opened { on, off } => {
-                let line = format!(in heap; "O {on} {off}\n")?;
-                out.push_str(line.as_str())?;
-                Ok(out)
+            Stage::Filling(draft) => draft.obey(command, areas),
+            Stage::Opened(open) => {
+                let _ = open.close();
+                Err(misplaced(command, State::Opened))
             }
         }
     }
 }
 
-/// The refusal of a command in a state where it is not allowed.
-pub(crate) fn misplaced(command: Command, state: State) -> Fault
-    ensures { result ≡ by_sheet (Cause.Misplaced (letter command) state) }
-{
-    Cause::Misplaced {
-        command: command.byte(),
-        state,
-    }
-    .by(Layer::Sheet)
-}
+impl fmt::Display for Tally {
+    ghost output = { λ tally. Some (open_line tally.on tally.off) };
 
-/// The lines so far and the refusal's.
-pub(crate) fn refuse(
-    heap: Global,
-    mut out: String,
-    fault: Fault,
-    at: usize,
-) -> Result<String, AllocError>
-    ensures { IfOk result (λ s. string_bytes s ≡ string_bytes out ++ refusal_line fault at) }
-{
-    let line = fault.line(heap, at)?;
-    out.push_str(line.as_str())?;
-    Ok(out)
+    fn fmt<W: fmt::Write>(&self, f: &mut fmt::Formatter<W>) -> fmt::Result {
+        let Tally { on, off } = *self;
+        write!(f, "O {on} {off}\n")
+    }
 }

@@ -1,10 +1,11 @@
-//! The bench's areas, the states of a sheet that hold a table or a session, and what a command prints.
+//! The bench's areas, the parts that are declared, and the table that is being filled.
 ghost use Rattle.std.specs.Prelude.{◌≤◌};
+ghost use Rattle.sheet.specs.Bench.{Small};
 
-use session::{Open, Table};
+use session::Table;
 use table::card::Card;
 
-/// The areas of the bench.
+/// The areas of the bench. Cards and numbers lie beside the parts, and not with them, as the calls of the session take them.
 #[derive(Drop)]
 pub(crate) struct Areas<P> {
     pub(crate) universe: Vec<P>,
@@ -17,7 +18,17 @@ pub(crate) struct Areas<P> {
     pub(crate) numbers: Vec<usize>,
 }
 
-/// A table that is being filled, with the parts declared, the universe as a row of words, and the row in hand.
+/// The parts that are declared: how many, and their sizes, with zeros past them. `begin` of the session takes both.
+#[derive(Drop)]
+pub(crate) struct Sizes {
+    pub(crate) all: [usize; 16],
+    pub(crate) p: usize,
+    ghost few: { p ≤ 16 },
+    ghost small: { Small all },
+}
+
+/// A table that is being filled, with the parts declared, the universe as a row of words, and the row in hand: `add` of the session takes
+/// sixteen words.
 pub(crate) struct Draft {
     pub(crate) table: Table,
     pub(crate) p: usize,
@@ -26,29 +37,9 @@ pub(crate) struct Draft {
     ghost few: { p ≤ 16 },
 }
 
-/// A table that is being filled, or an open session.
-pub(crate) enum Stage {
-    Filling(Draft),
-    Opened(Open),
-}
-
-/// What a command prints.
+/// How many cubes the solution and the off list have, which is printed when the table is opened.
 #[derive(Clone, Copy)]
-pub(crate) enum Said {
-    Nothing,
-    Opened { on: usize, off: usize },
-}
-
-/// The kinds of part.
-#[derive(Clone, Copy)]
-pub(crate) enum Kind {
-    Word,
-    Ternary,
-}
-
-/// What state 1 goes on with: one part more is declared, or the table begins.
-#[derive(Clone, Copy)]
-pub(crate) enum Next {
-    Part,
-    Table,
+pub(crate) struct Tally {
+    pub(crate) on: usize,
+    pub(crate) off: usize,
 }

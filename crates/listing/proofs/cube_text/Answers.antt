@@ -1,6 +1,5 @@
 use Rattle.std.proofs.Common.{◌≡◌, ℕ, ◌-◌, List, [], ◌∷◌, ◌++◌, map, length, take, drop, IsUtf8, sym, ap, ◌∙◌, subst, arith}
 use Rattle.std.proofs.lemmas.List.{append_assoc, length_push, take_at}
-use Rattle.std.proofs.lemmas.Result.{IfOk-weaker}
 use Rattle.std.proofs.lemmas.Str.{IsUtf8-from_ascii}
 use Rattle.cubes.specs.Areas.{overlay}
 use Rattle.listing.specs.Text.{cube_text}
@@ -13,11 +12,6 @@ cut text xs last size e f =
     let n : length text ≡ size - 1 - 0 = omega (arith, f, length_push text 10) in
     ap (take (size - 1 - 0)) (e ∙ append_assoc text (10 ∷ []) (drop (length (text ++ 10 ∷ [])) xs)) ∙ take_at text _ (size - 1 - 0) n
 
-pub overflow_sub-size : goal.overflow_sub-size
-overflow_sub-size g c =
-    let s = g.P.Part.set in
-    omega (arith, c.write_cube-size.ensures.size, length_push (cube_text g.P.Part.MOST (map s c.args.universe.now) (map s c.args.cube.now)) 10)
-
 pub text_of-requires : goal.text_of-requires
 text_of-requires g c =
     let s = g.P.Part.set in
@@ -26,9 +20,3 @@ text_of-requires g c =
     let t = cube_text g.P.Part.MOST U C in
     subst IsUtf8 (sym (cut t _ c.write_cube-size.new.line c.write_cube-size.result c.write_cube-size.ensures.text c.write_cube-size.ensures.size))
     (IsUtf8-from_ascii t (text_ascii g.P.Part.MOST U C))
-
-pub returns : goal.returns
-returns g c =
-    let s = g.P.Part.set in
-    let t = cube_text g.P.Part.MOST (map s c.args.universe.now) (map s c.args.cube.now) in
-    IfOk-weaker c.text_of.result _ _ (λ r e. e ∙ cut t _ c.write_cube-size.new.line c.write_cube-size.result c.write_cube-size.ensures.text c.write_cube-size.ensures.size) c.text_of.ensures

@@ -1,37 +1,52 @@
-use Rattle.std.proofs.Common.{ℕ, ◌+◌, ◌^◌, ◌<◌, ◌≤◌, List, [], ◌∷◌, length, set, decimal, refl, arith}
-use Rattle.std.proofs.lemmas.List.{length-set}
+use Rattle.std.proofs.Common.{◌≡◌, ℕ, ◌+◌, ◌^◌, ◌<◌, ◌≤◌, [], ◌∷◌, length, decimal, refl, ◌∙◌, arith, rules}
 use Rattle.std.proofs.lemmas.Fmt.{length-decimal-le}
-use Rattle.listing.specs.Text.{heading_line, Wrote}
-use Rattle.listing.proofs.Placed.{wrote_one, wrote_push, wrote_more}
+use Rattle.listing.specs.declared.Line.{Line}
+use Rattle.listing.specs.Text.{heading_line}
+use Rattle.listing.specs.Lines.{Appended}
+use Rattle.listing.proofs.Placed.{appended_more, length_appended}
 use Rattle.listing.proofs.write_heading.Goals as goal
 
 few_digits : (n : ℕ) → n < 2 ^ 64 → length (decimal n) ≤ 20
 few_digits n h = length-decimal-le 20 n (omega arith) (omega arith) h
 
--- the letter, the space, the digits, the newline
-whole : (n : ℕ) (xs last : List ℕ) (end : ℕ) → 24 ≤ length xs → n < 2 ^ 64 → Wrote 2 (decimal n) (set (set xs 0 76) 1 32) last end
-    → Wrote 0 (heading_line n) xs (set last end 10) (end + 1)
-whole n xs last end h k w =
-    let letter : Wrote 0 (76 ∷ []) xs (set xs 0 76) 1 = wrote_one 0 xs (76 ∷ []) 76 (omega arith) refl in
-    let front : Wrote 0 (76 ∷ 32 ∷ []) xs (set (set xs 0 76) 1 32) 2 = wrote_push 0 (76 ∷ []) xs (set xs 0 76) 1 letter (omega arith) 32 in
-    let digits : Wrote 0 (76 ∷ 32 ∷ decimal n) xs last end = wrote_more 0 (76 ∷ 32 ∷ []) xs (set (set xs 0 76) 1 32) 2 front (omega arith) (decimal n) last end w in
-    wrote_push 0 (76 ∷ 32 ∷ decimal n) xs last end digits (omega (arith, w.place, few_digits n k)) 10
+module _ (n : ℕ) (small : n < 2 ^ 64) (l a b : Line) (empty : l.len ≡ 0) (fits : 24 ≤ length l.bytes.now) (x : Appended (76 ∷ []) l a) (y : Appended (32 ∷ []) a b) where
+  -- the letter and the space
+  begun : Appended (76 ∷ 32 ∷ []) l b
+  begun = appended_more (76 ∷ []) l a x (omega arith) (32 ∷ []) b y
 
-pub write_decimal-end-requires : goal.write_decimal-end-requires
-write_decimal-end-requires c = simp length-set (omega (arith, few_digits c.args.count (omega arith)))
+  room : b.len + length (decimal n) ≤ length b.bytes.now
+  room = omega (arith, begun.wrote.place, few_digits n small, length_appended (76 ∷ 32 ∷ []) l b begun (omega arith))
 
-pub bounds-line-end : goal.bounds-line-end
-bounds-line-end c = omega (arith, c.write_decimal-end.ensures.place, few_digits c.args.count (omega arith), length-set (set c.args.line.now 0 76) 1 32, length-set c.args.line.now 0 76)
+  -- the digits
+  counted : (c : Line) → Appended (decimal n) b c → Appended (76 ∷ 32 ∷ decimal n) l c
+  counted c z = appended_more (76 ∷ 32 ∷ []) l b begun (omega arith) (decimal n) c z
 
-pub overflow_add-result : goal.overflow_add-result
-overflow_add-result c = omega (arith, c.write_decimal-end.ensures.place, few_digits c.args.count (omega arith))
+  room_more : (c : Line) → Appended (decimal n) b c → (c.len < length c.bytes.now) × (c.len ≤ 22)
+  room_more c z =
+      let few = few_digits n small in
+      let w = counted c z in
+      let same = length_appended (76 ∷ 32 ∷ decimal n) l c w (omega arith) in
+      (omega (arith, w.wrote.place), omega (arith, w.wrote.place))
 
-pub returns : goal.returns
-returns c =
-    let n = c.args.count in
-    let w = whole n c.args.line.now c.write_decimal-end.new.line c.write_decimal-end.result c.requires (omega arith) c.write_decimal-end.ensures in
-    record {
-      text = w.line;
-      size = omega (arith, w.place);
-      bound = omega (arith, c.write_decimal-end.ensures.place, few_digits n (omega arith));
-    }
+  -- the newline
+  all : (c d : Line) → Appended (decimal n) b c → Appended (10 ∷ []) c d → Appended (heading_line n) l d
+  all c d z v = let few = few_digits n small in appended_more (76 ∷ 32 ∷ decimal n) l c (counted c z) (omega arith) (10 ∷ []) d v
+
+pub decimal-requires : goal.decimal-requires
+decimal-requires c =
+    room c.args.count (omega arith) _ c.push.new.self c.push-2.new.self refl (omega arith) c.push.ensures c.push-2.ensures
+
+pub push-requires-3 : goal.push-requires-3
+push-requires-3 c =
+    (room_more c.args.count (omega arith) _ c.push.new.self c.push-2.new.self refl (omega arith) c.push.ensures c.push-2.ensures c.decimal.new.self c.decimal.ensures).0
+
+pub returns-clause-text : goal.returns-clause-text
+returns-clause-text c =
+    let w = all c.args.count (omega arith) _ c.push.new.self c.push-2.new.self refl (omega arith) c.push.ensures c.push-2.ensures c.decimal.new.self c.push-3.new.self c.decimal.ensures c.push-3.ensures in
+    let name = w.lent in
+    search rules ∙ w.wrote.line
+
+pub returns-clause-bound : goal.returns-clause-bound
+returns-clause-bound c =
+    let w = room_more c.args.count (omega arith) _ c.push.new.self c.push-2.new.self refl (omega arith) c.push.ensures c.push-2.ensures c.decimal.new.self c.decimal.ensures in
+    omega (arith, c.push-3.ensures.wrote.place)
