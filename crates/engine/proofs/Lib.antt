@@ -1,4 +1,3 @@
-mod Grown
 mod Meetings
-mod Settling
+mod Grown
 mod Turns

@@ -6,7 +6,7 @@ use faults::Cause;
 use table::begin::check_area;
 
 /// The lengths of the six areas: the universe in parts, the line in bytes, the others in cubes.
-#[derive(Clone, Copy)]
+#[derive(Clone, Copy, Default)]
 pub struct Lengths {
     pub universe: usize,
     pub table: usize,
