@@ -1,3 +1,4 @@
-mod Meetings
 mod Grown
+mod Meetings
+mod Settling
 mod Turns
