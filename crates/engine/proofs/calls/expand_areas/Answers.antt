@@ -3,7 +3,6 @@ use Rattle.std.proofs.lemmas.List.{length-map}
 use Rattle.cubes.specs.Areas.{cubes, flat}
 use Rattle.moves.specs.Calls.{expand}
 use Rattle.table.specs.Cards.{blank}
-use Rattle.table.specs.Filling.{Verdict}
 use Rattle.engine.specs.Foreign.{foreign_verdict}
 use Rattle.engine.proofs.Meetings.{none_foreign}
 use Rattle.engine.proofs.Settling.{settled_list, moved_settled}

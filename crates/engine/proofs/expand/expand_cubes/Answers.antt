@@ -1,8 +1,8 @@
-use Rattle.std.proofs.Common.{◌≡◌, suc, ◌<◌, ◌≤◌, map, length, take, drop, get_or, Some, None, sym, ap, ◌∙◌, subst, arith}
+use Rattle.std.proofs.Common.{◌≡◌, suc, ◌≤◌, map, take, drop, get_or, Some, None, sym, ap, ◌∙◌, subst, arith}
 use Rattle.cubes.specs.Areas.{cubes}
 use Rattle.cubes.proofs.Areas.{length-cubes}
 use Rattle.moves.specs.Expand.{expanding}
-use Rattle.moves.specs.Items.{no_item, cubes_of, started, first_of, waits, taking}
+use Rattle.moves.specs.Items.{no_item, cubes_of, started, first_of, waits}
 use Rattle.moves.specs.Sound.{Apart}
 use Rattle.moves.proofs.Expanded.{expanding_less}
 use Rattle.moves.proofs.Taking.{tally, cubes-carded, waits-started}

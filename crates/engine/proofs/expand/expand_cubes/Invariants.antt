@@ -1,4 +1,4 @@
-use Rattle.std.proofs.Common.{◌≡◌, map, take}
+use Rattle.std.proofs.Common.{map, take}
 use Rattle.cubes.specs.Areas.{cubes}
 use Rattle.moves.specs.Expand.{expanding}
 use Rattle.moves.specs.Items.{started, waits}

@@ -1,5 +1,4 @@
-use Rattle.std.proofs.Common.{◌≡◌, map, ap, ◌∙◌}
-use Rattle.orders.specs.Searches as cards
+use Rattle.std.proofs.Common.{map, ◌∙◌}
 use Rattle.engine.proofs.Turns.{first_item}
 use Rattle.engine.proofs.expand.first_left.Goals as goal
 

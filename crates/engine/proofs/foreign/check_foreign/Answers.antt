@@ -1,5 +1,4 @@
-use Rattle.std.proofs.Common.{rules, ◌≡◌, ℕ, ◌+◌, ◌^◌, ◌<◌, ◌≤◌, [], map, length, get_or, Some, None, sym, ap, ◌∙◌, arith}
-use Rattle.cubes.specs.Areas.{cubes}
+use Rattle.std.proofs.Common.{rules, ◌≡◌, ℕ, ◌+◌, ◌^◌, ◌<◌, [], map, length, get_or, Some, None, sym, ap, ◌∙◌, arith}
 use Rattle.cubes.specs.Lists.{sets_of}
 use Rattle.cubes.proofs.Areas.{length-cubes}
 use Rattle.engine.specs.Foreign.{first_met, foreign_verdict}

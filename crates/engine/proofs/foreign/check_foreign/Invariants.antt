@@ -1,4 +1,4 @@
-use Rattle.std.proofs.Common.{◌≡◌, ◌≤◌, map, drop}
+use Rattle.std.proofs.Common.{◌≡◌, ◌≤◌, drop}
 use Rattle.cubes.specs.Areas.{cubes}
 use Rattle.cubes.specs.Lists.{sets_of}
 use Rattle.engine.specs.Foreign.{foreign_verdict}

@@ -1,4 +1,4 @@
-use Rattle.std.proofs.Common.{rules, tests, ◌≡◌, ◌<◌, ◌^◌, map, length, inl, sym, ◌∙◌, arith}
+use Rattle.std.proofs.Common.{rules, tests, map, inl, sym, ◌∙◌, arith}
 use Rattle.std.proofs.lemmas.Iterator.Consumers.{YieldsList-from_first}
 use Rattle.std.proofs.lemmas.Iterator.Search.{position_from_yields_List}
 use Rattle.cubes.specs.Areas.{cubes}
