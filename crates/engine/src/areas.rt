@@ -17,6 +17,7 @@ pub struct Lengths {
 }
 
 /// Whether each area has what is needed, the lowest first. An area that a call does not use needs nothing.
+// The numbers are those that a refusal prints.
 pub fn check_areas(has: Lengths, needs: Lengths) -> Result<(), Cause>
     ensures { result ≡ areas_verdict has needs }
 {

@@ -40,6 +40,7 @@ impl<P: Part> Solution<'_, P> {
     }
 
     // Removes every other cube that the one at `at` covers: the rest close up.
+    // k is counted by hand: the cubes lie in lent slices, which have no `retain`.
     fn close_up(&mut self, at: usize)
         requires { at < self.old.n }
         ensures items { items P.set self.new ≡ spared_but (cube_left P.set at self.old) at (items P.set self.old) }

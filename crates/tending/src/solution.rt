@@ -6,6 +6,7 @@ use parts::Part;
 use table::card::Card;
 
 /// The cubes of a solution, each of `p` parts, with a card beside each: the first `n` are left.
+// Parts and cards lie apart, since the caller lends them as two areas.
 #[derive(Drop)]
 pub struct Solution<'a, P> {
     pub cubes: &'a mut [P],

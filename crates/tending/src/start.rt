@@ -12,6 +12,7 @@ use parts::Part;
 use table::card::Card;
 
 // Writes the cards of the first `n` cubes of an area: weights and starting places, and no marks.
+// The list is made in here: of a `&mut` field that a list was made of, a proof knows nothing afterwards.
 fn start_cards<P: Part>(p: usize, n: usize, area: &[P], cards: &mut [Card])
     requires few { p ≤ 16 }
     requires most { n ≤ 512 }
@@ -35,7 +36,9 @@ impl<P: Part> Solution<'_, P> {
         requires few { self.old.p ≤ 16 }
         requires most { self.old.n ≤ 512 }
         ensures items { items P.set self.new ≡ started (left P.set self.old) }
+        ensures cubes { self.new.cubes.now ≡ self.old.cubes.now }
         ensures cards { self.new.cards.now ≡ overlay (cards_of (started (left P.set self.old))) self.old.cards.now }
+        ensures n { self.new.n ≡ self.old.n }
         ensures areas { SameAreas self.old self.new }
     {
         let (p, n) = (self.p, self.n);
