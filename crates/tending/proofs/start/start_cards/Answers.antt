@@ -1,4 +1,4 @@
-use Rattle.std.proofs.Common.{◌≡◌, ◌+◌, ◌<◌, [], map, length, get_or, drop, sym, refl, ap, ◌∙◌, arith}
+use Rattle.std.proofs.Common.{◌≡◌, ◌+◌, ◌<◌, [], map, length, get_or, drop, sym, ap, ◌∙◌, arith}
 use Rattle.std.proofs.lemmas.List.{drop-drop, drop-set-lt}
 use Rattle.cubes.specs.Areas.{cubes}
 use Rattle.cubes.specs.Cubes.{Cube}
@@ -7,11 +7,6 @@ use Rattle.moves.specs.Items.{weighed}
 use Rattle.tending.proofs.Lists.{below, left_is, cube-few, sets_is, read_all}
 use Rattle.tending.proofs.Starts.{start_more, start-all}
 use Rattle.tending.proofs.start.start_cards.Goals as goal
-
-pub loop-i-init : goal.loop-i-init
-loop-i-init g c =
-    let made = c.new-cubes.ensures in
-    record { few = omega arith; left = c.iter-cube-items.ensures ∙ rw (made.parts, made.p, made.n); written = refl; behind = refl }
 
 pub weigh-requires-clause-few : goal.weigh-requires-clause-few
 weigh-requires-clause-few g c =

@@ -1,4 +1,4 @@
-use Rattle.std.proofs.Common.{rules, ◌≡◌, ◌+◌, ◌<◌, ◌≤◌, true, false, map, length, get_or, set, sym, refl, ap, ◌∙◌, ap₂, inl, arith}
+use Rattle.std.proofs.Common.{◌≡◌, ◌+◌, ◌<◌, ◌≤◌, true, false, map, length, get_or, set, sym, refl, ap, ◌∙◌, ap₂, inl, arith}
 use Rattle.std.proofs.lemmas.List.{take_all}
 use Rattle.cubes.specs.Cubes.{covers}
 use Rattle.moves.specs.Items.{Item, no_item}
@@ -20,17 +20,6 @@ loop-i-init g c =
       kept = (refl, refl, omega arith);
       leads = (inl (omega arith, refl), ap (λ (x : Item). x.cube) (get_or-items S.p S.n c.args.at (map s S.cubes.now) S.cards.now c.requires), omega (arith, length_items S.p S.n (map s S.cubes.now) S.cards.now));
     }
-
-pub covers-requires-clause-first : goal.covers-requires-clause-first
-covers-requires-clause-first g c =
-    let S = c.loop-i.self in
-    omega (arith, c.loop-i.invariant.leads.2, length_items S.p S.n (map g.P.Part.set S.cubes.now) S.cards.now)
-
-pub move_item-requires-clause-place : goal.move_item-requires-clause-place
-move_item-requires-clause-place g c = omega (arith, c.loop-i.invariant.kept.2, c.loop-i.invariant.n)
-
-pub overflow_add-k : goal.overflow_add-k
-overflow_add-k g c = let h = c.loop-i.invariant.kept.2 in search rules
 
 pub loop-i-preserved : goal.loop-i-preserved
 loop-i-preserved g c =
@@ -80,11 +69,6 @@ loop-i-preserved g c =
           })
     ]
 
-pub invariant_of-self : goal.invariant_of-self
-invariant_of-self g c =
-    let N = c.loop-i.self in
-    record { exact = N.exact; within = omega (arith, c.loop-i.invariant.kept.2, c.loop-i.invariant.n, c.loop-i.auto.i-end, N.within) }
-
 pub returns-clause-items : goal.returns-clause-items
 returns-clause-items g c =
     let s = g.P.Part.set in
@@ -96,8 +80,3 @@ returns-clause-items g c =
     let all : length L ≤ c.loop-i.i = omega (arith, length_items S.p S.n (map s S.cubes.now) S.cards.now) in
     let h : k ≤ N.n = omega (arith, le, c.loop-i.invariant.n, c.loop-i.auto.i-end) in
     sym (take_items N.p N.n k (map s N.cubes.now) N.cards.now h) ∙ c.loop-i.invariant.kept.0 ∙ ap (spared_but (cube_left s c.args.at S) c.args.at) (take_all c.loop-i.i L all)
-
-pub returns-clause-areas : goal.returns-clause-areas
-returns-clause-areas g c =
-    let a = c.loop-i.invariant.areas in
-    record { cubes = a.cubes; cards = a.cards; length = a.length; p = a.p; fewer = omega (arith, c.loop-i.invariant.kept.2, c.loop-i.auto.i-end) }
