@@ -1,34 +1,43 @@
 -- The first cube that meets the off list, and the first off cube that it meets, one after the other.
-use Rattle.std.proofs.Common.{◌≡◌, ℕ, suc, ◌+◌, ◌<◌, ◌≤◌, Bool, true, false, cond, ◌||◌, List, [], ◌∷◌, map, length, get_or, drop, Some, None, Ok, Err, Option, sym, refl, ap, ◌∙◌, add-one, arith}
+use Rattle.std.proofs.Common.{◌≡◌, ℕ, suc, ◌+◌, ◌<◌, ◌≤◌, Bool, true, false, cond, ◌||◌, ltb, List, [], ◌∷◌, map, length, get_or, drop, Some, None, Ok, Err, Option, sym, refl, ap, ◌∙◌, ⊎_elim, add-one, arith}
+use Rattle.std.proofs.lemmas.Bool.{cases_lt, lt-ltb, le-ltb}
+use Rattle.std.specs.List.{position_or_len}
 use Rattle.std.proofs.lemmas.List.{drop_more, drop_all}
 use Rattle.faults.specs.declared.Cause.TheVariants.{Foreign}
-use Rattle.cubes.specs.Areas.{cube_at, cubes}
+use Rattle.cubes.specs.Areas.{cubes}
 use Rattle.cubes.specs.Cubes.{Cube, Cover, meets}
-use Rattle.cubes.proofs.Areas.{get_or-cubes, map-cube_at}
+use Rattle.cubes.proofs.Flat.{map-cubes}
 use Rattle.moves.specs.Sound.{Apart}
 use Rattle.moves.specs.Widen.{touches}
 use Rattle.table.specs.Filling.{Verdict}
 use Rattle.engine.specs.Foreign.{first_met, foreign_by, foreign_verdict}
 
--- what a test says of the cube that was read at place j
-pub cube_test : {X : Type 0} (s : X → ℕ) (p n j : ℕ) (xs c : List X) {A : Type 0} (test : Cube → A) (r : A) → j < n → c ≡ cube_at p j xs → r ≡ test (map s c)
-    → test (get_or (cubes p n (map s xs)) j []) ≡ r
-cube_test s p n j xs c test r h e f = ap test (get_or-cubes p n j (map s xs) h ∙ sym (ap (map s) e ∙ map-cube_at s p j xs)) ∙ sym f
+-- ---- the first off cube
 
--- ---- the off cubes from number j on, where those and the ones before come to o
+module _ {X : Type 0} (s : X → ℕ) (f : Cube) where
+  abbrev pub met : List X → Bool
+  met c = meets f (map s c)
 
-module _ (f : Cube) (R : Cover) (o : Option ℕ) (j : ℕ) (inv : first_met j f (drop j R) ≡ o) where
-  met_step : j < length R → first_met j f (drop j R) ≡ cond (meets f (get_or R j [])) (Some j) (first_met (j + 1) f (drop (j + 1) R))
-  met_step h = rw (drop_more R j [] h, add-one)
+  -- its number, where the first of them has number j
+  abbrev found : ℕ → List (List X) → Option ℕ
+  found j D = cond (ltb (position_or_len met D) (length D)) (Some (j + position_or_len met D)) None
 
-  pub met_here : j < length R → meets f (get_or R j []) ≡ true → Some j ≡ o
-  met_here h m = sym (met_step h ∙ rw m) ∙ inv
+  found_is : (j : ℕ) (D : List (List X)) → first_met j f (map (map s) D) ≡ found j D
+  found_is j [] = refl
+  found_is j (d ∷ D) = by (met d) refl (found_is (suc j) D)
+    where
+      by : (t : Bool) → met d ≡ t → first_met (suc j) f (map (map s) D) ≡ found (suc j) D → cond (met d) (Some j) (first_met (suc j) f (map (map s) D)) ≡ found j (d ∷ D)
+      by true e h = let l : ltb 0 (suc (length D)) ≡ true = lt-ltb 0 (suc (length D)) (omega arith) in let z : j + 0 ≡ j = omega arith in rw (e, l, z)
+      by false e h =
+          let k = position_or_len met D in
+          let l : ltb (1 + k) (suc (length D)) ≡ ltb k (length D) =
+          ⊎_elim (λ (b : k < length D). lt-ltb (1 + k) (suc (length D)) (omega arith) ∙ sym (lt-ltb k (length D) b))
+          (λ (b : length D ≤ k). le-ltb (1 + k) (suc (length D)) (omega arith) ∙ sym (le-ltb k (length D) b)) (cases_lt k (length D)) in
+          let z : j + (1 + k) ≡ suc j + k = omega arith in
+          rw (e, l, z) h
 
-  pub met_later : j < length R → meets f (get_or R j []) ≡ false → first_met (j + 1) f (drop (j + 1) R) ≡ o
-  met_later h m = sym (met_step h ∙ rw m) ∙ inv
-
-  pub met_none : length R ≤ j → None ≡ o
-  met_none h = sym (ap (first_met j f) (drop_all j R h)) ∙ inv
+  pub met_is : (p n : ℕ) (xs : List X) → let D = cubes p n xs in first_met 0 f (cubes p n (map s xs)) ≡ cond (ltb (position_or_len met D) (length D)) (Some (position_or_len met D)) None
+  met_is p n xs = ap (first_met 0 f) (sym (map-cubes s p n xs)) ∙ found_is 0 (cubes p n xs) ∙ (let z : 0 + position_or_len met (cubes p n xs) ≡ position_or_len met (cubes p n xs) = omega arith in rw z)
 
 -- ---- the cubes from number i on
 

@@ -6,7 +6,7 @@ use faults::Cause;
 use table::begin::check_area;
 
 /// The lengths of the six areas: the universe in parts, the line in bytes, the others in cubes.
-#[derive(Clone, Copy)]
+#[derive(Clone, Copy, Default)]
 pub struct Lengths {
     pub universe: usize,
     pub table: usize,
@@ -17,6 +17,7 @@ pub struct Lengths {
 }
 
 /// Whether each area has what is needed, the lowest first. An area that a call does not use needs nothing.
+// The numbers are those that a refusal prints.
 pub fn check_areas(has: Lengths, needs: Lengths) -> Result<(), Cause>
     ensures { result ≡ areas_verdict has needs }
 {

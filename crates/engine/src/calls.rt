@@ -1,19 +1,50 @@
 //! The calls on plain numbers and slices: the checks in their order, the work, and the end of a call.
-ghost use Rattle.std.specs.Prelude.{◌≡◌, ◌*◌, ◌≤◌, map, take, drop, is_ok, IfOk, if◌then◌else◌};
+ghost use Rattle.std.specs.Prelude.{◌≡◌, ◌*◌, ◌≤◌, map, length, take, drop, is_ok, false, IfOk, if◌then◌else◌};
 ghost use Rattle.cubes.specs.Areas.{cubes as cubes_in};
 ghost use Rattle.moves.specs.Calls.{expand as expanded_list};
 ghost use Rattle.moves.specs.Sound.{Apart};
-ghost use Rattle.engine.specs.Calls.{Moved, expand_call};
+ghost use Rattle.engine.specs.Calls.{Moved, moved_by, expand_call};
+ghost use Rattle.engine.specs.Foreign.{foreign_verdict};
 
 use crate::areas::{Lengths, check_areas};
 use crate::expand::expand_cubes;
 use crate::foreign::check_foreign;
+use cubes::list::Cubes;
 use faults::Cause;
 use orders::Order;
 use parts::Part;
 use table::card::Card;
 use table::row::area_length;
-use tending::settle::settle;
+use tending::solution::Solution;
+
+// Expand on areas that were checked: those of the solution and its cards have just its length.
+// They come whole: of slices that a solution was made of parts of, a proof knows nothing afterwards.
+fn expand_areas<P: Part, O: Order>(
+    p: usize,
+    offs: usize,
+    order: &O,
+    universe: &[P],
+    off: &[P],
+    cubes: &mut [P],
+    cards: &mut [Card],
+) -> Result<usize, Cause>
+    requires few { p ≤ 16 }
+    requires most { length cards.old ≤ 512 }
+    requires whole { p ≤ length universe.now }
+    requires fits { offs * p ≤ length off.now }
+    requires exact { length cubes.old ≡ length cards.old * p }
+    ensures leaves { ◌≡◌ {A = Moved} (record { answer = result; solution = map P.set cubes.new; cards = cards.new }) (moved_by (foreign_verdict 0 (cubes_in p offs (map P.set off.now)) (cubes_in p (length cards.old) (map P.set cubes.old))) p (length cards.old) (expanded_list (O.before order.now) (take p (map P.set universe.now)) (cubes_in p offs (map P.set off.now)) (cubes_in p (length cards.old) (map P.set cubes.old))) (map P.set cubes.old) cards.old) }
+    ensures stays { is_ok result ≡ false → cubes.new ≡ cubes.old }
+    ensures list { IfOk result (λ n. cubes_in p n (map P.set cubes.new) ≡ expanded_list (O.before order.now) (take p (map P.set universe.now)) (cubes_in p offs (map P.set off.now)) (cubes_in p (length cards.old) (map P.set cubes.old))) }
+    ensures apart { IfOk result (λ n. Apart (cubes_in p offs (map P.set off.now)) (cubes_in p (length cards.old) (map P.set cubes.old))) }
+    ensures fewer { IfOk result (λ n. n ≤ length cards.old) }
+{
+    let mut solution = Solution::new(p, cubes, cards);
+    check_foreign(&solution.left(), &Cubes::new(off, p, offs))?;
+    expand_cubes(order, universe, off, offs, &mut solution);
+    solution.settle();
+    Ok(solution.n)
+}
 
 /// Expand, of a session with `p` parts, `offs` off cubes and `count` solution cubes; the answer is the cubes left.
 pub fn expand_solution<P: Part, O: Order>(
@@ -37,23 +68,24 @@ pub fn expand_solution<P: Part, O: Order>(
 {
     let has = Lengths {
         universe: universe.len(),
-        table: 0,
         off: off.len() / p,
         solution: area_length(p, solution.len(), cards.len()),
-        work: 0,
-        line: 0,
+        ..Lengths::default()
     };
     let needs = Lengths {
         universe: p,
-        table: 0,
         off: offs,
         solution: count,
-        work: 0,
-        line: 0,
+        ..Lengths::default()
     };
     check_areas(has, needs)?;
-    check_foreign(p, count, solution, off, offs)?;
-    let left = expand_cubes(p, count, order, universe, off, offs, solution, cards);
-    settle(p, left, count, solution, cards);
-    Ok(left)
+    expand_areas(
+        p,
+        offs,
+        order,
+        universe,
+        off,
+        &mut solution[..count * p],
+        &mut cards[..count],
+    )
 }

@@ -3,75 +3,64 @@ ghost use Rattle.std.specs.Prelude.{◌≡◌, suc, ◌*◌, ◌<◌, ◌≤◌,
 ghost use Rattle.cubes.specs.Areas.{cubes as cubes_in};
 ghost use Rattle.moves.specs.Calls.{expand as expanded_list};
 ghost use Rattle.moves.specs.Expand.{expanding};
-ghost use Rattle.moves.specs.Items.{no_item};
+ghost use Rattle.moves.specs.Items.{no_item, waits, first_of};
 ghost use Rattle.moves.specs.Sound.{Apart};
-ghost use Rattle.tending.specs.Items.{items_of};
+ghost use Rattle.tending.specs.Solutions.{SameAreas, items, left};
 
 use growth::grow::grow;
 use orders::search::first_waiting;
 use orders::{Direction, Order};
 use parts::Part;
-use table::card::Card;
-use tending::close::remove_covered;
-use tending::start::start_cards;
+use tending::solution::Solution;
 
-// Takes the cube at place `at` of `n`; the answer is how many are left.
+// Takes the cube at place `at`.
 fn expand_one<P: Part>(
-    p: usize,
-    n: usize,
-    at: usize,
     universe: &[P],
     off: &[P],
     offs: usize,
-    solution: &mut [P],
-    cards: &mut [Card],
-) -> usize
-    requires few { p ≤ 16 }
-    requires place { at < n }
-    requires whole { p ≤ length universe.now }
-    requires fits { offs * p ≤ length off.now }
-    requires room { n * p ≤ length solution.old }
-    requires beside { n ≤ length cards.old }
-    requires apart { Apart (cubes_in p offs (map P.set off.now)) (cubes_in p n (map P.set solution.old)) }
-    ensures items { items_of p result (map P.set solution.new) cards.new ≡ expanding (take p (map P.set universe.now)) (cubes_in p offs (map P.set off.now)) (take at (items_of p n (map P.set solution.old) cards.old)) (slice_index_or (items_of p n (map P.set solution.old) cards.old) at no_item) (drop (suc at) (items_of p n (map P.set solution.old) cards.old)) }
-    ensures most { result ≤ n }
-    ensures apart { Apart (cubes_in p offs (map P.set off.now)) (cubes_in p result (map P.set solution.new)) }
-    ensures parts { drop (n * p) solution.new ≡ drop (n * p) solution.old }
-    ensures cards { drop n cards.new ≡ drop n cards.old }
+    at: usize,
+    solution: &mut Solution<P>,
+)
+    requires few { solution.old.p ≤ 16 }
+    requires place { at < solution.old.n }
+    requires whole { solution.old.p ≤ length universe.now }
+    requires fits { offs * solution.old.p ≤ length off.now }
+    requires apart { Apart (cubes_in solution.old.p offs (map P.set off.now)) (left P.set solution.old) }
+    ensures items { items P.set solution.new ≡ expanding (take solution.old.p (map P.set universe.now)) (cubes_in solution.old.p offs (map P.set off.now)) (take at (items P.set solution.old)) (slice_index_or (items P.set solution.old) at no_item) (drop (suc at) (items P.set solution.old)) }
+    ensures apart { Apart (cubes_in solution.old.p offs (map P.set off.now)) (left P.set solution.new) }
+    ensures areas { SameAreas solution.old solution.new }
 {
-    grow(p, n, at, universe, off, offs, solution);
-    remove_covered(p, n, at, solution, cards)
+    let (p, n) = (solution.p, solution.n);
+    let cubes = &mut *solution.cubes;
+    grow(p, n, at, universe, off, offs, cubes);
+    solution.remove_covered(at);
 }
 
-/// Expands the first `n` cubes of the solution, none of which meets an off cube; the answer is how many are left.
+// Where the first of the cubes stands that are not taken.
+fn first_left<P: Part, O: Order>(order: &O, solution: &Solution<P>) -> Option<usize>
+    ensures { result ≡ first_of waits (O.before order.now) (items P.set solution.now) }
+{
+    first_waiting(order, Direction::Along, solution.cards_left(), solution.n)
+}
+
+/// Expands the cubes of the solution, none of which meets an off cube.
 pub fn expand_cubes<P: Part, O: Order>(
-    p: usize,
-    n: usize,
     order: &O,
     universe: &[P],
     off: &[P],
     offs: usize,
-    solution: &mut [P],
-    cards: &mut [Card],
-) -> usize
-    requires few { p ≤ 16 }
-    requires most { n ≤ 512 }
-    requires whole { p ≤ length universe.now }
-    requires fits { offs * p ≤ length off.now }
-    requires room { n * p ≤ length solution.old }
-    requires beside { n ≤ length cards.old }
-    requires apart { Apart (cubes_in p offs (map P.set off.now)) (cubes_in p n (map P.set solution.old)) }
-    ensures list { cubes_in p result (map P.set solution.new) ≡ expanded_list (O.before order.now) (take p (map P.set universe.now)) (cubes_in p offs (map P.set off.now)) (cubes_in p n (map P.set solution.old)) }
-    ensures most { result ≤ n }
-    ensures parts { drop (n * p) solution.new ≡ drop (n * p) solution.old }
-    ensures cards { drop n cards.new ≡ drop n cards.old }
+    solution: &mut Solution<P>,
+)
+    requires few { solution.old.p ≤ 16 }
+    requires most { solution.old.n ≤ 512 }
+    requires whole { solution.old.p ≤ length universe.now }
+    requires fits { offs * solution.old.p ≤ length off.now }
+    requires apart { Apart (cubes_in solution.old.p offs (map P.set off.now)) (left P.set solution.old) }
+    ensures list { left P.set solution.new ≡ expanded_list (O.before order.now) (take solution.old.p (map P.set universe.now)) (cubes_in solution.old.p offs (map P.set off.now)) (left P.set solution.old) }
+    ensures areas { SameAreas solution.old solution.new }
 {
-    start_cards(p, n, solution, cards);
-    let mut left = n;
-    for _i in 0..n {
-        if let Some(at) = first_waiting(order, Direction::Along, cards, left) {
-            left = expand_one(p, left, at, universe, off, offs, solution, cards);
-        }
+    solution.start();
+    while let Some(at) = first_left(order, solution) {
+        expand_one(universe, off, offs, at, solution);
     }
-    left
 }

@@ -1,7 +1,7 @@
 -- The cubes after Drop: each that is left has a vertex that no other holds, and no row that does not matter.
 use Rattle.std.proofs.Common.{◌≡◌, ℕ, ◌+◌, ◌<◌, ◌≤◌, Bool, true, false, cond, not, ◌||◌, eqb, List, [], ◌∷◌, ◌++◌, map, length, sym, refl, ap, ◌∙◌, subst, arith}
 use Rattle.std.specs.List.{ContainsAt, AllByRecursion}
-use Rattle.std.proofs.lemmas.List.{append-nil, append_assoc, length-append, length-map}
+use Rattle.std.proofs.lemmas.List.{length-append, length-map}
 use Rattle.std.proofs.ByRecursion.{All-append, All-weaker, All-map, all_has_itself}
 use Rattle.std.proofs.lemmas.Bool.{true≢false, cond_both, or_parts}
 use Rattle.cubes.specs.Cubes.{Cube, Vertex, Cover, Wide, live, holds, held}
@@ -23,13 +23,6 @@ use Rattle.moves.proofs.Taking.{cubes-++, tally, tally-++, length-cubes, all_lef
 cubes-placed : (f : Item) (E : Cover) → cubes_of (map (placed f) E) ≡ E
 cubes-placed f [] = refl
 cubes-placed f (c ∷ E) = ap (λ D. c ∷ D) (cubes-placed f E)
-
--- none in its place, or one
-pub put-none : (X : List Item) (f : Item) (Y : List Item) → put X f Y [] ≡ X ++ Y
-put-none X f Y = ap (λ L. L ++ Y) (append-nil X)
-
-pub put_one : (X : List Item) (f : Item) (Y : List Item) (c : Cube) → put X f Y (c ∷ []) ≡ X ++ placed f c ∷ Y
-put_one X f Y c = append_assoc X (placed f c ∷ []) Y
 
 pub cubes-put : (X : List Item) (f : Item) (Y : List Item) (E : Cover) → cubes_of (put X f Y E) ≡ cubes_of X ++ E ++ cubes_of Y
 cubes-put X f Y E =

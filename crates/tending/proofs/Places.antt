@@ -1,6 +1,6 @@
 -- The items of a solution, by place.
-use Rattle.std.proofs.Common.{◌≡◌, ℕ, zero, suc, ◌+◌, ◌*◌, ◌<◌, ◌≤◌, ◌≢◌, List, ◌∷◌, length, get_or, take, drop, set, sym, refl, ap, ◌∙◌, ⊎_elim, arith}
-use Rattle.std.proofs.lemmas.List.{drop-drop, get_or-drop, length-set, get_or-set_same, get_or-set_other, ext_get_or}
+use Rattle.std.proofs.Common.{◌≡◌, ℕ, zero, suc, ◌+◌, ◌-◌, ◌*◌, ◌<◌, ◌≤◌, ◌≢◌, List, ◌∷◌, ◌++◌, length, get_or, take, drop, set, sym, refl, ap, ◌∙◌, ⊎_elim, mul-le-mul_right, add-mul, arith}
+use Rattle.std.proofs.lemmas.List.{drop-drop, drop-take, drop_at, take-take, get_or-take, get_or-drop, length-set, get_or-set_same, get_or-set_other, ext_get_or}
 use Rattle.std.proofs.lemmas.Bool.{cases_order}
 use Rattle.cubes.specs.Areas.{cube_at, cubes, put_at}
 use Rattle.cubes.proofs.Areas.{next_place, place_below, cube_at-put, cube_at-put_above, cube_at-put_below}
@@ -17,6 +17,13 @@ length_items p (suc n) S C = ap suc (length_items p n (drop p S) (drop 1 C))
 pub cubes_items : (p n : ℕ) (S : List ℕ) (C : List Card) → cubes_of (items_of p n S C) ≡ cubes p n S
 cubes_items p zero S C = refl
 cubes_items p (suc n) S C = ap (λ D. take p S ∷ D) (cubes_items p n (drop p S) (drop 1 C))
+
+-- places in front of places
+pub places_within : (p n m : ℕ) → n ≤ m → n * p ≤ m * p
+places_within p n m h = mul-le-mul_right {m = n} {n = m} p h
+
+pub places_between : (p n m : ℕ) → n ≤ m → m * p - n * p ≡ (m - n) * p
+places_between p n m h = let e : n + (m - n) ≡ m = omega arith in omega (arith, add-mul n (m - n) p, ap (λ k. k * p) e)
 
 suc_place : (i p : ℕ) → suc i * p ≡ p + i * p
 suc_place i p = let e : suc i ≡ i + 1 = omega arith in omega (arith, next_place i p, ap (λ m. m * p) e)
@@ -41,6 +48,37 @@ pub take_items : (p n r : ℕ) (S : List ℕ) (C : List Card) → r ≤ n → ta
 take_items p n zero S C h = refl
 take_items p zero (suc r) S C h = absurd (omega arith)
 take_items p (suc n) (suc r) S C h = ap (λ L. item_of (take p S) (get_or C 0 blank) ∷ L) (take_items p n r (drop p S) (drop 1 C) (omega arith))
+
+-- the first items and the others
+pub items_split : (p a b : ℕ) (S : List ℕ) (C : List Card) → items_of p (a + b) S C ≡ items_of p a S C ++ items_of p b (drop (a * p) S) (drop a C)
+items_split p zero b S C = let e : 0 * p ≡ 0 = omega arith in let f : 0 + b ≡ b = omega arith in rw (e, f)
+items_split p (suc a) b S C =
+    let f : suc a + b ≡ suc (a + b) = omega arith in
+    let cubes : drop (a * p) (drop p S) ≡ drop (suc a * p) S = drop-drop (a * p) p S ∙ ap (λ m. drop m S) (sym (suc_place a p)) in
+    let g : 1 + a ≡ suc a = omega arith in
+    let cards : drop a (drop 1 C) ≡ drop (suc a) C = drop-drop a 1 C ∙ ap (λ m. drop m C) g in
+    rw f (ap (λ L. item_of (take p S) (get_or C 0 blank) ∷ L) (items_split p a b (drop p S) (drop 1 C) ∙ rw (cubes, cards)))
+
+pub drop_items : (p n r : ℕ) (S : List ℕ) (C : List Card) → r ≤ n → drop r (items_of p n S C) ≡ items_of p (n - r) (drop (r * p) S) (drop r C)
+drop_items p n r S C h =
+    let e : r + (n - r) ≡ n = omega arith in
+    ap (λ m. drop r (items_of p m S C)) (sym e) ∙ ap (drop r) (items_split p r (n - r) S C)
+    ∙ drop_at (items_of p r S C) (items_of p (n - r) (drop (r * p) S) (drop r C)) r (length_items p r S C)
+
+-- what lies before decides the items
+pub items_front : (p n : ℕ) (S T : List ℕ) (C D : List Card) → take (n * p) S ≡ take (n * p) T → take n C ≡ take n D → items_of p n S C ≡ items_of p n T D
+items_front p zero S T C D e f = refl
+items_front p (suc n) S T C D e f =
+    let q = suc_place n p in
+    let h : p ≤ suc n * p = omega arith in
+    let first : take p S ≡ take p T = sym (take-take p (suc n * p) S h) ∙ ap (take p) e ∙ take-take p (suc n * p) T h in
+    let left : (l : List ℕ) → take (n * p) (drop p l) ≡ drop p (take (suc n * p) l) = λ l. sym (drop-take p (n * p) l) ∙ ap (λ m. drop p (take m l)) (sym q) in
+    let card : (l : List Card) → get_or l 0 blank ≡ get_or (take (suc n) l) 0 blank = λ l. sym (get_or-take (suc n) l 0 blank (omega arith)) in
+    let one : 1 + n ≡ suc n = omega arith in
+    let cards : (l : List Card) → take n (drop 1 l) ≡ drop 1 (take (suc n) l) = λ l. sym (drop-take 1 n l) ∙ ap (λ m. drop 1 (take m l)) one in
+    let others = items_front p n (drop p S) (drop p T) (drop 1 C) (drop 1 D) (left S ∙ ap (drop p) e ∙ sym (left T)) (cards C ∙ ap (drop 1) f ∙ sym (cards D)) in
+    let k : get_or C 0 blank ≡ get_or D 0 blank = card C ∙ ap (λ l. get_or l 0 blank) f ∙ sym (card D) in
+    rw (first, k, others)
 
 -- a cube and its card are written at a place
 module _ (p n : ℕ) (S : List ℕ) (C : List Card) (fits : n * p ≤ length S) (beside : n ≤ length C) (i : ℕ) (at : i < n) where

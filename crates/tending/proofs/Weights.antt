@@ -1,62 +1,53 @@
--- Weights, one part or one cube after another.
-use Rattle.std.proofs.Common.{◌≡◌, ℕ, zero, suc, ◌+◌, ◌*◌, ◌<◌, ◌≤◌, min, Bool, true, false, cond, List, [], ◌∷◌, map, length, get_or, drop, refl, ap, ◌∙◌, ⊎_elim, arith}
+-- Weights as sums, over the parts of two cubes or the cubes of a list.
+use Rattle.std.proofs.Common.{◌≡◌, ℕ, ◌+◌, ◌*◌, ◌^◌, ◌<◌, ◌≤◌, List, [], ◌∷◌, map, length, sym, refl, ap, ◌∙◌, arith}
 use lib.Bits.{bit_and}
 use lib.Count.{ones}
-use Rattle.std.proofs.lemmas.List.{drop_more, drop_all}
-use Rattle.std.proofs.lemmas.Bool.{cases_lt}
-use Rattle.parts.specs.Sets.{members, has}
-use Rattle.cubes.specs.Cubes.{Cube}
-use Rattle.cubes.specs.Areas.{cube_at, cubes}
-use Rattle.cubes.proofs.Areas.{place_below, length-cube_at, length-cubes, get_or-cubes}
-use Rattle.cubes.proofs.Pairs.{left-set, left-none}
+use Rattle.std.specs.List.{sum_by, zip}
+use Rattle.std.proofs.lemmas.List.Sums.{sum_by-cons}
+use Rattle.std.proofs.lemmas.Nat.{ones-le, and_le_l}
+use Rattle.cubes.specs.Areas.{cubes}
+use Rattle.cubes.specs.Cubes.{Cube, Cover}
+use Rattle.cubes.proofs.Flat.{length-cubes, map-cubes}
 use Rattle.moves.specs.Items.{shared, weighed}
 
--- ---- two cubes
+module _ {X : Type 0} (s : X → ℕ) where
+  -- the values that two parts share
+  abbrev pub both : X × X → ℕ
+  both q = ones (bit_and (s q.0) (s q.1))
 
--- of the values below n at most n are members
-pub few-members : (s n : ℕ) → members s n ≤ n
-few-members s zero = omega arith
-few-members s (suc n) = by (has s n) (few-members s n)
-  where
-    by : (b : Bool) → members s n ≤ n → members s n + cond b 1 0 ≤ suc n
-    by true h = omega arith
-    by false h = omega arith
-
-module _ {X : Type 0} (s : X → ℕ) (xs ys : List X) (i : ℕ) where
-  pub shared_step : (x y : X) → i < length xs → i < length ys → x ≡ get_or xs i x → y ≡ get_or ys i y
-      → shared (drop i (map s xs)) (drop i (map s ys)) ≡ ones (bit_and (s x) (s y)) + shared (drop (i + 1) (map s xs)) (drop (i + 1) (map s ys))
+  pub shared_sum : (xs ys : List X) → shared (map s xs) (map s ys) ≡ sum_by both (zip xs ys)
   unfolding shared
-  shared_step x y hx hy ex ey = rw (left-set s xs i x hx ex, left-set s ys i y hy ey)
+  shared_sum [] ys = refl
+  shared_sum (x ∷ xs) [] = refl
+  shared_sum (x ∷ xs) (y ∷ ys) = ap (λ n. both (x, y) + n) (shared_sum xs ys) ∙ sym (sum_by-cons both (x, y) (zip xs ys))
 
-  none : (B : Cube) → shared [] B ≡ 0
-  unfolding shared
-  none B = refl
+  -- the values that the cube c shares with another
+  abbrev pub beside : List X → List X → ℕ
+  beside c d = shared (map s c) (map s d)
 
-  none' : (A : Cube) → shared A [] ≡ 0
-  unfolding shared
-  none' [] = refl
-  none' (a ∷ A) = refl
-
-  pub shared_end : min (length xs) (length ys) ≤ i → shared (drop i (map s xs)) (drop i (map s ys)) ≡ 0
-  shared_end h =
-      ⊎_elim (λ (l : i < length xs). ap (shared (drop i (map s xs))) (left-none s ys i (omega arith)) ∙ none' (drop i (map s xs)))
-      (λ (l : length xs ≤ i). ap (λ A. shared A (drop i (map s ys))) (left-none s xs i l) ∙ none (drop i (map s ys)))
-      (cases_lt i (length xs))
-
--- ---- a cube and a cover
-
--- a cube of the area has p parts
-pub size_at : {X : Type 0} (p n i : ℕ) (xs c : List X) → i < n → n * p ≤ length xs → c ≡ cube_at p i xs → length c ≡ p
-size_at p n i xs c h fits e = ap length e ∙ length-cube_at p i xs (omega (arith, place_below i n p h))
-
-module _ (p n i : ℕ) (c : Cube) (S : List ℕ) where
-  pub weighed-step : i < n → weighed c (drop i (cubes p n S)) ≡ shared c (cube_at p i S) + weighed c (drop (i + 1) (cubes p n S))
+  weighed_sum : (c : List X) (D : List (List X)) → weighed (map s c) (map (map s) D) ≡ sum_by (beside c) D
   unfolding weighed
-  weighed-step h =
-      let l : i < length (cubes p n S) = omega (arith, length-cubes p n S) in
-      ap (weighed c) (drop_more (cubes p n S) i [] l)
-      ∙ ap (λ d. shared c d + weighed c (drop (i + 1) (cubes p n S))) (get_or-cubes p n i S h)
+  weighed_sum c [] = refl
+  weighed_sum c (d ∷ D) = ap (λ n. beside c d + n) (weighed_sum c D) ∙ sym (sum_by-cons (beside c) d D)
 
-  pub weighed_end : n ≤ i → weighed c (drop i (cubes p n S)) ≡ 0
-  unfolding weighed
-  weighed_end h = ap (weighed c) (drop_all i (cubes p n S) (omega (arith, length-cubes p n S)))
+  pub weighed_cubes : (c : List X) (p n : ℕ) (xs : List X) → weighed (map s c) (cubes p n (map s xs)) ≡ sum_by (beside c) (cubes p n xs)
+  weighed_cubes c p n xs = ap (weighed (map s c)) (sym (map-cubes s p n xs)) ∙ weighed_sum c (cubes p n xs)
+
+  module _ (most : ℕ) (below : (x : X) → s x < 2 ^ most) (few : most ≤ 64) where
+    -- two parts share at most 64 values
+    pub shared_few : (c : List X) (d : Cube) → shared (map s c) d ≤ 64 * length c
+    unfolding shared
+    shared_few [] d = omega arith
+    shared_few (x ∷ c) [] = omega arith
+    shared_few (x ∷ c) (b ∷ d) =
+        let h = below x in
+        let lt : bit_and (s x) b < 2 ^ most = omega (arith, and_le_l (s x) b) in
+        omega (arith, shared_few c d, ones-le most (bit_and (s x) b) lt)
+
+    weighed_few : (c : List X) → length c ≤ 16 → (D : Cover) → weighed (map s c) D ≤ 1024 * length D
+    unfolding weighed
+    weighed_few c h [] = omega arith
+    weighed_few c h (d ∷ D) = omega (arith, shared_few c d, weighed_few c h D)
+
+    pub weighed_most : (c : List X) → length c ≤ 16 → (p n : ℕ) (S : List ℕ) → weighed (map s c) (cubes p n S) ≤ 1024 * n
+    weighed_most c h p n S = omega (arith, weighed_few c h (cubes p n S), length-cubes p n S)

@@ -3,5 +3,6 @@
 
 pub mod close;
 pub mod settle;
+pub mod solution;
 pub mod start;
 pub mod weight;

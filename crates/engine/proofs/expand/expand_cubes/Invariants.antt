@@ -1,22 +1,24 @@
-use Rattle.std.proofs.Common.{◌≡◌, ◌*◌, ◌≤◌, map, take, drop}
+use Rattle.std.proofs.Common.{map, take}
 use Rattle.cubes.specs.Areas.{cubes}
 use Rattle.moves.specs.Expand.{expanding}
-use Rattle.moves.specs.Items.{started}
+use Rattle.moves.specs.Items.{started, waits}
 use Rattle.moves.specs.Sound.{Apart}
-use Rattle.tending.specs.Items.{items_of}
+use Rattle.moves.proofs.Taking.{tally}
+use Rattle.tending.specs.Solutions.{SameAreas, items, left}
 use Rattle.engine.proofs.Turns.{Turned}
 use Rattle.engine.proofs.expand.expand_cubes.Given as goal
 
-abbrev pub invariant-loop-i : goal.invariant-loop-i
-invariant-loop-i g l =
+abbrev pub invariant-loop-at : goal.invariant-loop-at
+invariant-loop-at g l =
     let s = g.P.Part.set in
-    let p = l.p in
-    let n = l.n in
-    let U = take p (map s l.universe) in
-    let R = cubes p l.offs (map s l.off) in
-    let S = map s l.solution in
-    Turned (g.O.Order.before l.order) (expanding U R) n (started (cubes p n (map s l.initial.solution))) l._i (items_of p l.left S l.cards)
-    × Apart R (cubes p l.left S)
-    × (l.left ≤ n)
-    × (drop (n * p) l.solution ≡ drop (n * p) l.initial.solution)
-    × (drop n l.cards ≡ drop n l.initial.cards)
+    let V = l.fn.solution in
+    let U = take V.p (map s l.universe) in
+    let R = cubes V.p l.offs (map s l.off) in
+    record {
+      turned : Turned (g.O.Order.before l.order) (expanding U R) V.n (started (left s V)) (items s l.solution);
+      apart : Apart R (left s l.solution);
+      areas : SameAreas V l.solution;
+    }
+
+abbrev pub decreases-loop-at : goal.decreases-loop-at
+decreases-loop-at g l = tally waits (items g.P.Part.set l.solution)

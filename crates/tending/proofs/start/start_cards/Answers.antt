@@ -1,38 +1,51 @@
-use Rattle.std.proofs.Common.{◌≡◌, ℕ, ◌+◌, ◌<◌, false, map, length, take, drop, set, sym, ap, ◌∙◌, subst, arith}
+use Rattle.std.proofs.Common.{◌≡◌, ◌+◌, ◌<◌, [], map, length, get_or, drop, sym, ap, ◌∙◌, arith}
 use Rattle.std.proofs.lemmas.List.{drop-drop, drop-set-lt}
 use Rattle.cubes.specs.Areas.{cubes}
-use Rattle.moves.specs.Items.{started}
-use Rattle.table.specs.declared.card.Card.{Card}
-use Rattle.tending.specs.Items.{items_of, cards_of}
-use Rattle.tending.proofs.Starts.{start_more, start-all, start_items}
+use Rattle.cubes.specs.Cubes.{Cube}
+use Rattle.cubes.proofs.Areas.{length-cubes}
+use Rattle.moves.specs.Items.{weighed}
+use Rattle.tending.proofs.Lists.{below, left_is, cube-few, sets_is, read_all}
+use Rattle.tending.proofs.Starts.{start_more, start-all}
 use Rattle.tending.proofs.start.start_cards.Goals as goal
 
--- a card with no marks
-abbrev card_at : ℕ → ℕ → Card
-card_at w i = record { kind = 0; weight = w; place = i; taken = false; tried = false; out = false }
+pub weigh-requires-clause-few : goal.weigh-requires-clause-few
+weigh-requires-clause-few g c =
+    omega (arith, c.requires.few, cube-few c.args.p c.args.n c.args.area.now c.loop-i.i c.in-Some.cube.now _ (sym c.loop-i.invariant.left ∙ c.in-Some.ensures.steps))
+
+pub bounds-cards-i : goal.bounds-cards-i
+bounds-cards-i g c =
+    omega (arith, c.requires.beside, below c.args.p c.args.n c.args.area.now c.loop-i.i c.in-Some.cube.now _ (sym c.loop-i.invariant.left ∙ c.in-Some.ensures.steps))
 
 pub loop-i-preserved : goal.loop-i-preserved
 loop-i-preserved g c =
     let p = c.args.p in
     let n = c.args.n in
-    let S = map g.P.Part.set c.args.solution.now in
+    let xs = c.args.area.now in
+    let s = g.P.Part.set in
+    let i = c.loop-i.i in
     let N = c.loop-i.cards in
     let E = c.args.cards.now in
-    let i = c.loop-i.i in
-    let m : i < length N = omega arith in
-    let e = c.weigh.ensures.value in (
-      subst (λ (w : ℕ). take (i + 1) (set N i (card_at w i)) ≡ cards_of (take (i + 1) (started (cubes p n S)))) (sym e) (start_more p n S i N c.loop-i-test.true m c.loop-i.invariant.0),
-      drop-set-lt (i + 1) N i (card_at c.weigh.result i) (omega arith) ∙ sym (drop-drop 1 i N) ∙ ap (drop 1) c.loop-i.invariant.1 ∙ drop-drop 1 i E,
-    )
+    let C = cubes p n (map s xs) in
+    let made = c.new-cubes.ensures in
+    let next = sym c.loop-i.invariant.left ∙ c.in-Some.ensures.steps in
+    let h = below p n xs i c.in-Some.cube.now _ next in
+    let w : c.weigh.result ≡ weighed (get_or C i []) C =
+    c.weigh.ensures.value ∙ rw (made.parts, made.p, made.n) (ap (λ (d : Cube). weighed d C) (sym (sets_is p n xs i c.in-Some.cube.now _ next s))) in
+    let in-C : i < length C = omega (arith, h, length-cubes p n (map s xs)) in
+    let in-N : i < length N = omega (arith, h, c.requires.beside) in
+    record {
+      few = omega (arith, h);
+      left = sym (left_is p n xs i c.in-Some.cube.now _ next);
+      written = rw (c.blank.ensures, w) (start_more C i N in-C in-N c.loop-i.invariant.written);
+      behind = drop-set-lt (i + 1) N i _ (omega arith) ∙ sym (drop-drop 1 i N) ∙ ap (drop 1) c.loop-i.invariant.behind ∙ drop-drop 1 i E;
+    }
 
 pub returns : goal.returns
 returns g c =
     let p = c.args.p in
     let n = c.args.n in
-    let S = map g.P.Part.set c.args.solution.now in
-    let N = c.loop-i.cards in
-    let E = c.args.cards.now in
-    let e : c.loop-i.i ≡ n = omega arith in
+    let C = cubes p n (map g.P.Part.set c.args.area.now) in
+    let end = read_all p n c.args.area.now c.loop-i.i (sym c.loop-i.invariant.left ∙ c.in-None.ensures.steps.0) in
+    let e : c.loop-i.i ≡ length C = omega (arith, end, c.loop-i.invariant.few, length-cubes p n (map g.P.Part.set c.args.area.now)) in
     let inv = rw e at c.loop-i.invariant in
-    let cards = start-all p n S N E inv.0 inv.1 in
-    record { items = ap (items_of p n S) cards ∙ start_items p n S E; cards = cards }
+    start-all C c.loop-i.cards c.args.cards.now inv.written inv.behind

@@ -1,25 +1,21 @@
-use Rattle.std.proofs.Common.{◌≡◌, ◌<◌, ◌≤◌, length, ap, ◌∙◌, arith}
-use lib.Bits.{bit_and}
-use lib.Count.{ones}
-use Rattle.tending.proofs.Weights.{few-members, shared_step, shared_end}
+use Rattle.std.proofs.Common.{rules, ◌≡◌, map, sym, ◌∙◌, arith}
+use Rattle.std.specs.List.{sum_by, zip}
+use Rattle.std.proofs.lemmas.Iterator.{YieldsList-from_slice, YieldsList-from_zip, YieldsList-from_map}
+use Rattle.std.proofs.lemmas.Iterator.Consumers.{YieldsList-at, sum_by_from_yields_List}
+use Rattle.tending.proofs.Weights.{both, shared_sum, shared_few}
 use Rattle.tending.proofs.weight.shared_values.Goals as goal
 
-pub loop-i-preserved : goal.loop-i-preserved
-loop-i-preserved g c =
+total : (g : _) (c : goal.After-sum g) → c.sum.result ≡ sum_by (both g.P.Part.set) (zip c.args.a.now c.args.b.now)
+total g c =
     let s = g.P.Part.set in
-    let A = c.args.a.now in
-    let B = c.args.b.now in
-    let i = c.loop-i.i in
-    let x = c.index-a-i.result in
-    let y = c.index-b-i.result in
-    let ha : i < length A = omega arith in
-    let hb : i < length B = omega arith in
-    let one : c.count.result ≡ ones (bit_and (s x) (s y)) = c.count.ensures.value ∙ ap ones c.common.ensures.value in
-    let step = shared_step s A B i x y ha hb c.index-a-i.is c.index-b-i.is in
-    let few : c.count.result ≤ 64 = omega (arith, c.count.ensures.values, few-members (s c.common.result) g.P.Part.MOST, g.met.P.Part.range.1) in
-    (omega (arith, one, step, c.loop-i.invariant.0), omega (arith, few, c.loop-i.invariant.1))
+    let pairs = YieldsList-from_zip {s = c.zip.result} (YieldsList-from_slice c.args.a.now cc) (YieldsList-from_slice c.args.b.now cc) in
+    sum_by_from_yields_List (both s) (zip c.args.a.now c.args.b.now) c.map.result c.sum.result c.sum.ensures.ran
+    (YieldsList-from_map _ (both s) (YieldsList-at c.map.ensures.source pairs) c.map.ensures.closure (λ x r q k. search rules))
 
 pub returns : goal.returns
 returns g c =
-    let end = shared_end g.P.Part.set c.args.a.now c.args.b.now c.loop-i.i (omega arith) in
-    record { value = omega (arith, end, c.loop-i.invariant.0); most = omega (arith, c.loop-i.invariant.1) }
+    let s = g.P.Part.set in
+    let a = c.args.a.now in
+    let b = c.args.b.now in
+    let few = shared_few s g.P.Part.MOST g.met.P.Part.below g.met.P.Part.range.1 a (map s b) in
+    record { value = total g c ∙ sym (shared_sum s a b); most = omega (arith, total g c, shared_sum s a b, few) }

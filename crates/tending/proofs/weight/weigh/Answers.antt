@@ -1,43 +1,37 @@
-use Rattle.std.proofs.Common.{◌≡◌, ◌≤◌, map, ap, ◌∙◌, ap₂, arith}
-use Rattle.cubes.specs.Areas.{cube_at}
-use Rattle.cubes.proofs.Areas.{place_below, map-cube_at}
-use Rattle.moves.specs.Items.{shared}
-use Rattle.tending.proofs.Weights.{size_at, weighed-step, weighed_end}
+use Rattle.std.proofs.Common.{rules, ◌≡◌, ◌^◌, ◌<◌, map, sym, ◌∙◌, arith}
+use Rattle.std.specs.List.{sum_by}
+use Rattle.std.proofs.lemmas.Iterator.{YieldsList-from_map}
+use Rattle.std.proofs.lemmas.Iterator.Consumers.{YieldsList-at, YieldsList-from_first, sum_by_from_yields_List, fits_by_from_yields_list}
+use Rattle.cubes.specs.Areas.{cubes}
+use Rattle.tending.proofs.Weights.{beside, weighed_cubes, weighed_most}
 use Rattle.tending.proofs.weight.weigh.Goals as goal
 
-pub cube_at-requires : goal.cube_at-requires
-cube_at-requires g c = omega (arith, place_below c.args.i c.args.n c.args.p c.requires.place)
-
-pub cube_at-requires-in-loop-j : goal.cube_at-requires-in-loop-j
-cube_at-requires-in-loop-j g c = omega (arith, place_below c.loop-j.j c.args.n c.args.p c.loop-j-test.true)
-
-pub shared_values-sum-requires : goal.shared_values-sum-requires
-shared_values-sum-requires g c = omega (arith, size_at c.args.p c.args.n c.args.i c.args.solution.now _ c.requires.place c.requires.fits c.cube_at.ensures)
-
-few : (g : _) (c : goal.After-shared_values-sum g) → c.shared_values-sum.result ≤ 1024
-few g c =
-    let e = size_at c.args.p c.args.n c.args.i c.args.solution.now _ c.requires.place c.requires.fits c.cube_at.ensures in
-    omega (arith, e, c.shared_values-sum.ensures.most)
-
-pub overflow_add-sum : goal.overflow_add-sum
-overflow_add-sum g c = omega (arith, few g c, c.loop-j.invariant.1)
-
-pub loop-j-preserved : goal.loop-j-preserved
-loop-j-preserved g c =
+pub sum-requires-clause-fits : goal.sum-requires-clause-fits
+sum-requires-clause-fits g c =
+    let l = c.args.cubes.now in
     let s = g.P.Part.set in
-    let p = c.args.p in
-    let i = c.args.i in
-    let j = c.loop-j.j in
-    let xs = c.args.solution.now in
-    let S = map s xs in
-    let a : map s c.cube_at.result.now ≡ cube_at p i S = ap (map s) c.cube_at.ensures ∙ map-cube_at s p i xs in
-    let b : map s c.cube_at-in-loop-j.result.now ≡ cube_at p j S = ap (map s) c.cube_at-in-loop-j.ensures ∙ map-cube_at s p j xs in
-    let one : c.shared_values-sum.result ≡ shared (cube_at p i S) (cube_at p j S) = c.shared_values-sum.ensures.value ∙ ap₂ shared a b in
-    let step = weighed-step p c.args.n j (cube_at p i S) S c.loop-j-test.true in
-    (omega (arith, one, step, c.loop-j.invariant.0), omega (arith, few g c, c.loop-j.invariant.1))
+    let a = c.args.cube.now in
+    let D = cubes l.p l.n l.parts.now in
+    let most = weighed_most s g.P.Part.MOST g.met.P.Part.below g.met.P.Part.range.1 a c.requires.few l.p l.n (map s l.parts.now) in
+    let h = c.requires.most in
+    let fits : sum_by (beside s a) D < 2 ^ 64 = omega (arith, most, weighed_cubes s a l.p l.n l.parts.now) in
+    let list = YieldsList-from_first (λ x. x.now) (λ i. cubes i.p i.n i.rest.now) D c.iter.ensures in
+    fits_by_from_yields_list (beside s a) D c.map.result (2 ^ 64) (YieldsList-from_map _ (beside s a) (YieldsList-at c.map.ensures.source list) c.map.ensures.closure (λ x r q k. search rules)) fits
+
+total : (g : _) (c : goal.After-sum g) → let l = c.args.cubes.now in c.sum.result ≡ sum_by (beside g.P.Part.set c.args.cube.now) (cubes l.p l.n l.parts.now)
+total g c =
+    let l = c.args.cubes.now in
+    let s = g.P.Part.set in
+    let a = c.args.cube.now in
+    let D = cubes l.p l.n l.parts.now in
+    let list = YieldsList-from_first (λ x. x.now) (λ i. cubes i.p i.n i.rest.now) D c.iter.ensures in
+    sum_by_from_yields_List (beside s a) D c.map.result c.sum.result c.sum.ensures.ran (YieldsList-from_map _ (beside s a) (YieldsList-at c.map.ensures.source list) c.map.ensures.closure (λ x r q k. search rules))
 
 pub returns : goal.returns
 returns g c =
-    let S = map g.P.Part.set c.args.solution.now in
-    let end = weighed_end c.args.p c.args.n c.loop-j.j (cube_at c.args.p c.args.i S) S (omega arith) in
-    record { value = omega (arith, end, c.loop-j.invariant.0); most = omega (arith, c.loop-j.invariant.1) }
+    let l = c.args.cubes.now in
+    let s = g.P.Part.set in
+    let a = c.args.cube.now in
+    let most = weighed_most s g.P.Part.MOST g.met.P.Part.below g.met.P.Part.range.1 a c.requires.few l.p l.n (map s l.parts.now) in
+    let sum = weighed_cubes s a l.p l.n l.parts.now in
+    record { value = total g c ∙ sym sum; most = omega (arith, total g c, sum, most) }
