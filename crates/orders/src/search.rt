@@ -84,14 +84,14 @@ pub fn first_untried<O: Order>(
     first_sought(order, along, Sought::Untried, cards, n)
 }
 
-/// The lightest of the first `p` parts that are not taken, the lower number first.
-pub fn lightest_part(weights: [usize; 16], taken: [bool; 16], p: usize) -> Option<usize>
-    requires { p ≤ 16 }
-    ensures value { result ≡ lightest p (λ k. slice_index weights k) taken }
-    ensures first { IsLightest p (λ k. slice_index weights k) taken result }
+/// The lightest of the parts that are not taken, the lower number first.
+pub fn lightest_part(weights: &[usize], taken: &[bool]) -> Option<usize>
+    requires { length weights.now ≡ length taken.now }
+    ensures value { result ≡ lightest (length taken.now) (λ k. slice_index weights.now k) taken.now }
+    ensures first { IsLightest (length taken.now) (λ k. slice_index weights.now k) taken.now result }
 {
     let mut found = None;
-    for i in 0..p {
+    for i in 0..taken.len() {
         if !taken[i] {
             found = match found {
                 None => Some(i),

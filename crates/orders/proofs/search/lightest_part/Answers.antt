@@ -1,4 +1,4 @@
-use Rattle.std.proofs.Common.{◌≡◌, ℕ, ◌<◌, false, not, get_or, sym, ap, ◌∙◌, subst, add-one, arith, rules}
+use Rattle.std.proofs.Common.{◌≡◌, ℕ, ◌<◌, length, false, not, get_or, sym, ap, ◌∙◌, subst, add-one, arith, rules}
 use Rattle.orders.specs.Rules.{light_rule}
 use Rattle.orders.specs.Bests.{against}
 use Rattle.orders.specs.Searches.{lightest, IsLightest}
@@ -11,13 +11,13 @@ pub bounds-weights-b : goal.bounds-weights-b
 bounds-weights-b c = omega (arith, best-below _ _ c.loop-i.i c.in-Some.b (sym c.loop-i.invariant ∙ c.in-Some.is))
 
 pub offset_bounds-weights-b : goal.offset_bounds-weights-b
-offset_bounds-weights-b c = let h : c.in-Some.b < 16 = bounds-weights-b c in search rules
+offset_bounds-weights-b c = let h : c.in-Some.b < length c.args.weights.now = omega (arith, best-below _ _ c.loop-i.i c.in-Some.b (sym c.loop-i.invariant ∙ c.in-Some.is)) in search rules
 
 pub loop-i-preserved : goal.loop-i-preserved
 loop-i-preserved c =
     let i = c.loop-i.i in
-    let w : ℕ → ℕ = λ k. get_or c.args.weights k 0 in
-    let next = against (not (get_or c.args.taken i false)) (λ i j. light_rule (w i) i (w j) j) i in
+    let w : ℕ → ℕ = λ k. get_or c.args.weights.now k 0 in
+    let next = against (not (get_or c.args.taken.now i false)) (λ i j. light_rule (w i) i (w j) j) i in
     let e : c.if-not-taken-i.found ≡ next c.loop-i.found = elim c.if-not-taken-i.branch [
       | then-not-taken-i+in-None w ↦ search rules
       | then-not-taken-i+in-Some+then-comes_before w ↦ search rules
@@ -28,8 +28,9 @@ loop-i-preserved c =
 
 pub returns : goal.returns
 returns c =
-    let w : ℕ → ℕ = λ k. get_or c.args.weights k 0 in
-    let t = c.args.taken in
-    let all : c.loop-i.i ≡ c.args.p = omega arith in
-    let value : c.loop-i.found ≡ lightest c.args.p w t = c.loop-i.invariant ∙ ap (λ p. lightest p w t) all in
-    record { value = value; first = subst (IsLightest c.args.p w t) (sym value) (lightest_first c.args.p w t) }
+    let w : ℕ → ℕ = λ k. get_or c.args.weights.now k 0 in
+    let t = c.args.taken.now in
+    let n = length c.args.taken.now in
+    let all : c.loop-i.i ≡ n = omega arith in
+    let value : c.loop-i.found ≡ lightest n w t = c.loop-i.invariant ∙ ap (λ p. lightest p w t) all in
+    record { value = value; first = subst (IsLightest n w t) (sym value) (lightest_first n w t) }
