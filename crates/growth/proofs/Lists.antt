@@ -1,5 +1,8 @@
 -- Lists of cubes, read cube by cube.
-use Rattle.std.proofs.Common.{◌≡◌, ℕ, ◌+◌, ◌*◌, ◌<◌, ◌≤◌, List, [], ◌∷◌, ◌++◌, map, length, get_or, Some, None, Option, Bor, sym, refl, ap, ◌∙◌, arith}
+use Rattle.std.proofs.Common.{◌≡◌, ℕ, ◌+◌, ◌*◌, ◌<◌, ◌≤◌, min, List, [], ◌∷◌, ◌++◌, map, length, get_or, Some, None, Option, Bor, sym, refl, ap, ◌∙◌, arith}
+use Rattle.std.specs.List.{zip, enumerate_from}
+use Rattle.std.proofs.lemmas.List.FromFn.{length-enumerate_from, get_or-enumerate_from}
+use Rattle.std.proofs.lemmas.Slice.Zip.{length-zip, get_or-zip}
 use Rattle.std.specs.Iterator.{Yields, YieldsFirstRef}
 use Rattle.std.proofs.lemmas.Iterator.{YieldsList}
 use Rattle.std.proofs.lemmas.Iterator.Consumers.{YieldsList-from_first, YieldsList-turn, YieldsList-end}
@@ -52,3 +55,16 @@ module _ {X : Type 0} (l : Cubes X) (i : CubesIter X) (start : left i ≡ cubes 
   all_read s rs j y o k e t =
       let h = YieldsList-end road rs j y o k e t in
       sets-now s rs ∙ ap (map (map s)) h.0 ∙ map-cubes s l.p l.n l.parts.now
+
+-- ---- two slices side by side, with the number of each pair
+
+pub pair_read : {A B : Type 0} (xs : List A) (ys : List B) (i k : ℕ) (x : A) (y : B)
+    → (i < length (enumerate_from 0 (zip xs ys))) × ((k, (x, y)) ≡ get_or (enumerate_from 0 (zip xs ys)) i (k, (x, y)))
+    → (k ≡ i) × (i < length xs) × (i < length ys) × (x ≡ get_or xs i x) × (y ≡ get_or ys i y)
+pair_read xs ys i k x y h =
+    let l : i < length (zip xs ys) = omega (arith, h.0, length-enumerate_from 0 (zip xs ys)) in
+    let lx : i < length xs = omega (arith, length-zip xs ys) in
+    let ly : i < length ys = omega (arith, length-zip xs ys) in
+    let e : (k, (x, y)) ≡ (0 + i, (get_or xs i x, get_or ys i y)) =
+    h.1 ∙ get_or-enumerate_from 0 (zip xs ys) i (k, (x, y)) l ∙ ap (λ q. (0 + i, q)) (get_or-zip xs ys i (x, y) lx ly) in
+    (ap (λ q. q.0) e ∙ omega arith, lx, ly, ap (λ q. q.1.0) e, ap (λ q. q.1.1) e)

@@ -96,23 +96,20 @@ sums_both x y w v t e f h = omega arith
 -- the weights ws with one more at each part below k that passes the test
 abbrev pub Adding : ℕ → (ℕ → Bool) → List ℕ → List ℕ → Type 0
 Adding k t ws vs =
-    (length vs ≡ 16) × ((j : ℕ) → j < k → get_or vs j 0 ≡ get_or ws j 0 + cond (t j) 1 0) × ((j : ℕ) → k ≤ j → get_or vs j 0 ≡ get_or ws j 0)
+    ((j : ℕ) → j < k → get_or vs j 0 ≡ get_or ws j 0 + cond (t j) 1 0) × ((j : ℕ) → k ≤ j → get_or vs j 0 ≡ get_or ws j 0)
 
-pub adding_true : (k : ℕ) (t : ℕ → Bool) (ws vs : List ℕ) → t k ≡ true → k < 16 → Adding k t ws vs → Adding (k + 1) t ws (set vs k (get_or vs k 0 + 1))
-adding_true k t ws vs e h inv =
-    let l : k < length vs = omega (arith, inv.0) in (
-      length-set vs k _ ∙ inv.0,
-      below_more _ _
-          (λ j m. let ne : j ≢ k = omega arith in get_or-set_other vs k j _ 0 ne ∙ inv.1 j m)
-          (get_or-set_same vs k _ 0 l ∙ ap (λ n. n + 1) (inv.2 k (omega arith)) ∙ ap (λ b. get_or ws k 0 + cond b 1 0) (sym e)),
-      λ j m. let ne : j ≢ k = omega arith in get_or-set_other vs k j _ 0 ne ∙ inv.2 j (omega arith),
-    )
+pub adding_true : (k : ℕ) (t : ℕ → Bool) (ws vs : List ℕ) → t k ≡ true → k < length vs → Adding k t ws vs → Adding (k + 1) t ws (set vs k (get_or vs k 0 + 1))
+adding_true k t ws vs e h inv = (
+  below_more _ _
+      (λ j m. let ne : j ≢ k = omega arith in get_or-set_other vs k j _ 0 ne ∙ inv.0 j m)
+      (get_or-set_same vs k _ 0 h ∙ ap (λ n. n + 1) (inv.1 k (omega arith)) ∙ ap (λ b. get_or ws k 0 + cond b 1 0) (sym e)),
+  λ j m. let ne : j ≢ k = omega arith in get_or-set_other vs k j _ 0 ne ∙ inv.1 j (omega arith),
+)
 
 pub adding_false : (k : ℕ) (t : ℕ → Bool) (ws vs : List ℕ) → t k ≡ false → Adding k t ws vs → Adding (k + 1) t ws vs
 adding_false k t ws vs e inv = (
-  inv.0,
-  below_more _ _ inv.1 (inv.2 k (omega arith) ∙ none (get_or ws k 0) ∙ ap (λ b. get_or ws k 0 + cond b 1 0) (sym e)),
-  λ j m. inv.2 j (omega arith),
+  below_more _ _ inv.0 (inv.1 k (omega arith) ∙ none (get_or ws k 0) ∙ ap (λ b. get_or ws k 0 + cond b 1 0) (sym e)),
+  λ j m. inv.1 j (omega arith),
 )
   where
     none : (n : ℕ) → n ≡ n + 0
