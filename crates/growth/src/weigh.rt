@@ -32,7 +32,8 @@ pub fn part_weights<P: Part>(over: &[P], at: usize, solution: &Cubes<P>, weights
 {
     weights.fill(0);
     let f = solution.cube(at);
-    for (i, cube) in solution.iter().enumerate() {
+    for i in 0..solution.len() {
+        let cube = solution.cube(i);
         if i != at && covers(over, cube) {
             add_weights(cube, f, weights);
         }
