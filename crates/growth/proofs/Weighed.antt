@@ -1,5 +1,6 @@
 -- The weights of the parts, counted from one cube after another.
-use Rattle.std.proofs.Common.{◌≡◌, ℕ, zero, suc, ◌+◌, ◌-◌, ◌*◌, ◌<◌, ◌≤◌, Bool, true, false, cond, ◌&&◌, eqb, ◌≢◌, List, [], ◌∷◌, ◌++◌, length, get_or, take, drop, set, sym, refl, ap, ◌∙◌, ap₂, add-mul, add-one, arith, below_more}
+use Rattle.std.proofs.Common.{◌≡◌, ℕ, zero, suc, ◌+◌, ◌-◌, ◌*◌, ◌%◌, ◌^◌, ◌<◌, ◌≤◌, Bool, true, false, cond, ◌&&◌, eqb, ◌≢◌, List, [], ◌∷◌, ◌++◌, map, length, get_or, take, drop, set, sym, refl, ap, ◌∙◌, ap₂, add-mul, add-one, arith, below_more}
+use Rattle.std.specs.List.{zip, list_all}
 use Rattle.std.proofs.lemmas.List.{length-append, length-take, length-drop, take_all, drop_more, drop_all, length-set, get_or-set_same, get_or-set_other}
 use Rattle.std.proofs.lemmas.Bool.Decides.{nat_tests}
 use Rattle.parts.specs.Sets.{minus}
@@ -8,24 +9,17 @@ use Rattle.cubes.specs.Cubes.{Cube, Cover, covers}
 use Rattle.cubes.proofs.Areas.{cubes_more, length-cubes}
 use Rattle.moves.specs.Expand.{part_weight}
 use Rattle.growth.specs.Others.{others}
+use Rattle.growth.proofs.Blocked.{minus_low}
 
 -- ---- a cube within words
 
-pub covers_front : (W C : Cube) → covers (take (length C) W) C ≡ covers W C
-covers_front [] [] = refl
-covers_front [] (c ∷ C) = refl
-covers_front (w ∷ W) [] = refl
-covers_front (w ∷ W) (c ∷ C) = ap (λ b. eqb (minus c w) 0 && b) (covers_front W C)
-
-pub within_step : (W C D : Cube) (i x : ℕ) → i < length W → drop i C ≡ x ∷ D → covers (drop i W) (drop i C) ≡ (eqb (minus x (get_or W i 0)) 0 && covers (drop (i + 1) W) D)
-within_step W C D i x h e = rw (drop_more W i 0 h, e)
-
-pub within_end : (W C : Cube) (i : ℕ) → length C ≤ i → covers (drop i W) (drop i C) ≡ true
-within_end W C i h = rw (drop_all i C h) (by (drop i W))
-  where
-    by : (A : Cube) → covers A [] ≡ true
-    by [] = refl
-    by (a ∷ A) = refl
+-- the values of a word past the most do not matter
+pub within_all : {X : Type 0} (s : X → ℕ) (most : ℕ) → ((x : X) → s x < 2 ^ most) → (xs : List X) (ws : List ℕ)
+    → covers ws (map s xs) ≡ list_all (λ (q : X × ℕ). eqb (minus (s q.0) (q.1 % 2 ^ most)) 0) (zip xs ws)
+within_all s most h [] [] = refl
+within_all s most h [] (w ∷ ws) = refl
+within_all s most h (x ∷ xs) [] = refl
+within_all s most h (x ∷ xs) (w ∷ ws) = ap₂ (λ (n : ℕ) (b : Bool). eqb n 0 && b) (sym (minus_low most (s x) w (h x))) (within_all s most h xs ws)
 
 -- ---- cubes one after another
 

@@ -2,11 +2,11 @@
 ghost use Rattle.std.specs.Prelude.{◌≡◌, ℕ, ◌+◌, ◌<◌, map, length, if◌then◌else◌, ◌==◌, slice_index};
 ghost use Rattle.parts.specs.Sets.{minus};
 ghost use Rattle.cubes.specs.Areas.{cube_at};
+ghost use Rattle.cubes.specs.Cubes.{covers};
 ghost use Rattle.cubes.specs.Lists.{sets_of};
 ghost use Rattle.moves.specs.Expand.{part_weight};
 ghost use Rattle.growth.specs.Others.{others};
 
-use cubes::cube::covers;
 use cubes::list::Cubes;
 use parts::{Part, lies_within};
 
@@ -24,17 +24,26 @@ pub(crate) fn add_weights<P: Part>(cube: &[P], f: &[P], weights: &mut [usize])
     }
 }
 
+/// Whether each part of the cube lies within its word.
+pub(crate) fn within_words<P: Part>(cube: &[P], words: &[u64]) -> bool
+    ensures { result ≡ covers words.now (map P.set cube.now) }
+{
+    cube.iter()
+        .zip(words)
+        .all(|(x, w)| lies_within(*x, P::make(*w)))
+}
+
 /// Makes the weight of each part the number of other cubes that `over` covers and whose part lies within that of the cube at place `at`.
-pub fn part_weights<P: Part>(over: &[P], at: usize, solution: &Cubes<P>, weights: &mut [usize])
+pub fn part_weights<P: Part>(over: &[u64], at: usize, solution: &Cubes<P>, weights: &mut [usize])
     requires place { at < solution.now.n }
     requires size { length weights.old ≡ solution.now.p }
-    ensures { (k : ℕ) → k < solution.now.p → slice_index weights.new k ≡ part_weight (map P.set over.now) (cube_at solution.now.p at (map P.set solution.now.parts.now)) (others at (sets_of P.set solution.now)) k }
+    ensures { (k : ℕ) → k < solution.now.p → slice_index weights.new k ≡ part_weight over.now (cube_at solution.now.p at (map P.set solution.now.parts.now)) (others at (sets_of P.set solution.now)) k }
 {
     weights.fill(0);
     let f = solution.cube(at);
     for i in 0..solution.len() {
         let cube = solution.cube(i);
-        if i != at && covers(over, cube) {
+        if i != at && within_words(cube, over) {
             add_weights(cube, f, weights);
         }
     }

@@ -8,4 +8,4 @@ abbrev pub invariant-loop-i : goal.invariant-loop-i
 invariant-loop-i g l =
     let X = map g.P.Part.set l.solution.parts.now in
     let p = l.solution.p in
-    (k : ℕ) → k < p → get_or l.weights k 0 ≡ part_weight (map g.P.Part.set l.over) (cube_at p l.at X) (others l.at (cubes p l.i X)) k
+    (k : ℕ) → k < p → get_or l.weights k 0 ≡ part_weight l.over (cube_at p l.at X) (others l.at (cubes p l.i X)) k
