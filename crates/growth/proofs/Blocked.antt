@@ -3,7 +3,7 @@ use Rattle.std.proofs.Common.{◌≡◌, ℕ, zero, suc, ◌+◌, ◌-◌, ◌*�
 use lib.Bits.{bit_or, or_zero_l, or_zero_r}
 use Rattle.std.specs.List.{range_with_len}
 use Rattle.std.proofs.lemmas.List.FromFn.{fill_by_all, get_or-map-range_with_len, length-range_with_len}
-use Rattle.std.proofs.lemmas.List.{get_or-set_same, get_or-set_other, get_or-take, length-take, take-append-drop, set-append_left, set-append_right, length-map, length-set, take-map, map-set}
+use Rattle.std.proofs.lemmas.List.{get_or-set_same, get_or-set_other, get_or-take, length-take, take-append-drop, set-append_left, set-append_right, length-map, length-set, map-set, take_all, take_more, take_more_set}
 use Rattle.std.proofs.lemmas.Bool.{cases_eq, cases_Bool}
 use Rattle.std.proofs.lemmas.Bool.Decides.{nat_tests}
 use Rattle.parts.specs.Sets.{has, minus}
@@ -101,20 +101,32 @@ module _ (U f : Cube) where
         ∙ ap (minus (get_or U i 0)) (sym (one (Some k) e i l ∙ ap (λ b. bit_or (blocked i f R) (cond b (get_or r i 0) 0)) elsewhere ∙ or_zero_r (blocked i f R))))
         (cases_eq i k))
 
--- the universe, before any is looked at
-pub over_start : {X : Type 0} (s : X → ℕ) (p : ℕ) (us f vs : List X) → p ≤ length us → length f ≡ p → vs ≡ take p us → map s vs ≡ over (take p (map s us)) (map s f) []
-over_start s p us f vs h e q =
-    ap (map s) q ∙ sym (take-map s p us) ∙ over_none (take p (map s us)) (map s f) (simp (length-take, length-map) (omega arith))
+-- ---- written part by part, where word and s give the set of a part
 
--- ---- one off cube read
+module _ {X Y : Type 0} (word : Y → ℕ) (s : X → ℕ) where
+  -- one part more of the universe
+  pub start_more : (us : List X) (k : ℕ) (v : Y) (ws : List Y) → k < length ws → k < length us → take k (map word ws) ≡ take k (map s us) → word v ≡ get_or (map s us) k 0
+      → take (k + 1) (map word (set ws k v)) ≡ take (k + 1) (map s us)
+  start_more us k v ws h l inv e =
+      let n : k < length (map word ws) = rw length-map h in
+      let m : k < length (map s us) = rw length-map l in
+      ap (take (k + 1)) (map-set word ws k v)
+      ∙ take_more_set (map word ws) k (word v) n ∙ ap₂ (λ (A : List ℕ) (i : ℕ). A ++ i ∷ []) inv e ∙ sym (take_more (map s us) k 0 m)
 
--- part k of the cube xs is written as v
-pub over_step : {X : Type 0} (s : X → ℕ) (U f : Cube) (R : Cover) (xs r : List X) (k : ℕ) (v : X) → map s xs ≡ over U f R → length f ≡ length r → meets f (map s r) ≡ false
-    → only_missed 0 f (map s r) ≡ Some k → k < length f → s v ≡ minus (get_or (map s xs) k 0) (get_or (map s r) k 0) → map s (set xs k v) ≡ over U f (R ++ map s r ∷ [])
-over_step s U f R xs r k v inv size apart e h q =
-    map-set s xs k v
-    ∙ ap₂ (λ (A : Cube) (n : ℕ). set A k n) inv (q ∙ ap (λ (A : Cube). minus (get_or A k 0) (get_or (map s r) k 0)) inv)
-    ∙ over-less U f R (map s r) (size ∙ sym (length-map r s)) apart k e h
+  -- the universe, before any off cube is looked at
+  pub over_start : (us : List X) (p : ℕ) (ws : List Y) (f : List X) → p ≤ length us → length f ≡ p → length ws ≡ p → take p (map word ws) ≡ take p (map s us)
+      → map word ws ≡ over (take p (map s us)) (map s f) []
+  over_start us p ws f h e l inv =
+      let n : length (map word ws) ≤ p = rw length-map (omega arith) in
+      sym (take_all p (map word ws) n) ∙ inv ∙ over_none (take p (map s us)) (map s f) (simp (length-take, length-map) (omega arith))
+
+  -- part k loses the values of an off cube
+  pub over_step : (U f : Cube) (R : Cover) (ws : List Y) (r : List X) (k : ℕ) (v : Y) → map word ws ≡ over U f R → length f ≡ length r → meets f (map s r) ≡ false
+      → only_missed 0 f (map s r) ≡ Some k → k < length f → word v ≡ minus (get_or (map word ws) k 0) (get_or (map s r) k 0) → map word (set ws k v) ≡ over U f (R ++ map s r ∷ [])
+  over_step U f R ws r k v inv size apart e h q =
+      map-set word ws k v
+      ∙ ap₂ (λ (A : List ℕ) (n : ℕ). set A k n) inv (q ∙ ap (λ (A : Cube). minus (get_or A k 0) (get_or (map s r) k 0)) inv)
+      ∙ over-less U f R (map s r) (size ∙ sym (length-map r s)) apart k e h
 
 -- ---- cubes that were read
 

@@ -14,12 +14,12 @@ use Rattle.growth.proofs.Blocked.{minus_low}
 -- ---- a cube within words
 
 -- the values of a word past the most do not matter
-pub within_all : {X : Type 0} (s : X → ℕ) (most : ℕ) → ((x : X) → s x < 2 ^ most) → (xs : List X) (ws : List ℕ)
-    → covers ws (map s xs) ≡ list_all (λ (q : X × ℕ). eqb (minus (s q.0) (q.1 % 2 ^ most)) 0) (zip xs ws)
-within_all s most h [] [] = refl
-within_all s most h [] (w ∷ ws) = refl
-within_all s most h (x ∷ xs) [] = refl
-within_all s most h (x ∷ xs) (w ∷ ws) = ap₂ (λ (n : ℕ) (b : Bool). eqb n 0 && b) (sym (minus_low most (s x) w (h x))) (within_all s most h xs ws)
+pub within_all : {X Y : Type 0} (s : X → ℕ) (word : Y → ℕ) (most : ℕ) → ((x : X) → s x < 2 ^ most) → (xs : List X) (ws : List Y)
+    → covers (map word ws) (map s xs) ≡ list_all (λ (q : X × Y). eqb (minus (s q.0) (word q.1 % 2 ^ most)) 0) (zip xs ws)
+within_all s word most h [] [] = refl
+within_all s word most h [] (w ∷ ws) = refl
+within_all s word most h (x ∷ xs) [] = refl
+within_all s word most h (x ∷ xs) (w ∷ ws) = ap₂ (λ (n : ℕ) (b : Bool). eqb n 0 && b) (sym (minus_low most (s x) (word w) (h x))) (within_all s word most h xs ws)
 
 -- ---- cubes one after another
 

@@ -11,7 +11,7 @@ use crate::weigh::part_weights;
 use crate::widen::widen;
 use cubes::list::Cubes;
 use orders::search::lightest_part;
-use parts::Part;
+use parts::{Part, Word};
 
 /// Grows the cube at place `at` of the solution, which meets no off cube, beside the other cubes.
 pub fn grow<P: Part>(universe: &[P], off: &Cubes<P>, n: usize, at: usize, solution: &mut [P])
@@ -25,7 +25,7 @@ pub fn grow<P: Part>(universe: &[P], off: &Cubes<P>, n: usize, at: usize, soluti
     ensures behind { drop (at * off.now.p + off.now.p) solution.new ≡ drop (at * off.now.p + off.now.p) solution.old }
 {
     let p = off.width();
-    let mut over = [0; 16];
+    let mut over = [Word(0); 16];
     let mut weights = [0; 16];
     let mut taken = [false; 16];
     let over = &mut over[..p];

@@ -1,5 +1,6 @@
 //! The weight of each part of a cube: how many other cubes that may be covered one day lie within it there already.
 ghost use Rattle.std.specs.Prelude.{◌≡◌, ℕ, ◌+◌, ◌<◌, map, length, if◌then◌else◌, ◌==◌, slice_index};
+ghost use Rattle.parts.specs.Models.{word_set};
 ghost use Rattle.parts.specs.Sets.{minus};
 ghost use Rattle.cubes.specs.Areas.{cube_at};
 ghost use Rattle.cubes.specs.Cubes.{covers};
@@ -8,7 +9,7 @@ ghost use Rattle.moves.specs.Expand.{part_weight};
 ghost use Rattle.growth.specs.Others.{others};
 
 use cubes::list::Cubes;
-use parts::{Part, lies_within};
+use parts::{Part, Word, lies_within};
 
 /// Adds one to the weight of each part of the cube that lies within that of `f`.
 pub(crate) fn add_weights<P: Part>(cube: &[P], f: &[P], weights: &mut [usize])
@@ -25,19 +26,19 @@ pub(crate) fn add_weights<P: Part>(cube: &[P], f: &[P], weights: &mut [usize])
 }
 
 /// Whether each part of the cube lies within its word.
-pub(crate) fn within_words<P: Part>(cube: &[P], words: &[u64]) -> bool
-    ensures { result ≡ covers words.now (map P.set cube.now) }
+pub(crate) fn within_words<P: Part>(cube: &[P], words: &[Word]) -> bool
+    ensures { result ≡ covers (map word_set words.now) (map P.set cube.now) }
 {
     cube.iter()
         .zip(words)
-        .all(|(x, w)| lies_within(*x, P::make(*w)))
+        .all(|(x, w)| lies_within(*x, P::make(w.0)))
 }
 
 /// Makes the weight of each part the number of other cubes that `over` covers and whose part lies within that of the cube at place `at`.
-pub fn part_weights<P: Part>(over: &[u64], at: usize, solution: &Cubes<P>, weights: &mut [usize])
+pub fn part_weights<P: Part>(over: &[Word], at: usize, solution: &Cubes<P>, weights: &mut [usize])
     requires place { at < solution.now.n }
     requires size { length weights.old ≡ solution.now.p }
-    ensures { (k : ℕ) → k < solution.now.p → slice_index weights.new k ≡ part_weight over.now (cube_at solution.now.p at (map P.set solution.now.parts.now)) (others at (sets_of P.set solution.now)) k }
+    ensures { (k : ℕ) → k < solution.now.p → slice_index weights.new k ≡ part_weight (map word_set over.now) (cube_at solution.now.p at (map P.set solution.now.parts.now)) (others at (sets_of P.set solution.now)) k }
 {
     weights.fill(0);
     let f = solution.cube(at);

@@ -1,17 +1,34 @@
-use Rattle.std.proofs.Common.{◌≡◌, ◌<◌, ◌≤◌, false, map, length, get_or, take, set, Some, None, sym, refl, ap, ◌∙◌, arith, rules}
-use Rattle.std.proofs.lemmas.List.{length-map, map-set}
+use Rattle.std.proofs.Common.{◌≡◌, ◌^◌, ◌<◌, ◌≤◌, false, map, length, get_or, take, set, Some, None, sym, refl, ap, ◌∙◌, arith, rules}
+use Rattle.std.proofs.lemmas.List.{length-take, get_or-take, length-map, map-set}
+use Rattle.parts.specs.Models.{word_set}
 use Rattle.cubes.specs.Areas.{cube_at}
 use Rattle.cubes.specs.Cubes.{meets}
 use Rattle.cubes.proofs.Areas.{map-cube_at}
 use Rattle.cubes.proofs.Pairs.{read_set}
 use Rattle.moves.specs.Expand.{over}
 use Rattle.growth.specs.Missed.{only_missed}
-use Rattle.growth.proofs.Blocked.{touches_cube, over_start, over-passed, over_step}
+use Rattle.growth.proofs.Blocked.{touches_cube, start_more, over_start, over-passed, over_step}
 use Rattle.growth.proofs.Lists.{next_read, width_read, all_read, sets_read, sets_read-push}
 use Rattle.growth.proofs.over.over_expanded.Goals as goal
 
+pub loop-k-preserved : goal.loop-k-preserved
+loop-k-preserved g c =
+    let s = g.P.Part.set in
+    let us = c.args.universe.now in
+    let k = c.loop-k.k in
+    let size : length (take c.width.result us) ≡ c.args.off.now.p = simp length-take (omega (arith, c.requires.whole, c.width.ensures)) in
+    let p : k < c.args.off.now.p = omega (arith, size) in
+    let u : get_or (map s us) k 0 ≡ s c.u-item.result = read_set s us k c.u-item.result (omega (arith, c.requires.whole)) (c.u-item.is ∙ get_or-take c.width.result us k c.u-item.result (omega (arith, c.width.ensures))) in
+    start_more word_set s us k _ c.loop-k.over (omega (arith, c.requires.room)) (omega (arith, c.requires.whole)) c.loop-k.invariant (search rules)
+
 pub loop-r-init : goal.loop-r-init
-loop-r-init g c = over_start g.P.Part.set c.args.off.now.p c.args.universe.now c.args.f.now _ c.requires.whole c.requires.size (search rules)
+loop-r-init g c =
+    let s = g.P.Part.set in
+    let us = c.args.universe.now in
+    let p = c.args.off.now.p in
+    let size : length (take c.width.result us) ≡ p = simp length-take (omega (arith, c.requires.whole, c.width.ensures)) in
+    let all : c.loop-k.k ≡ p = omega (arith, size) in
+    over_start word_set s us p c.loop-k.over c.args.f.now c.requires.whole c.requires.size (omega (arith, c.requires.room)) (ap (λ n. take n (map word_set c.loop-k.over)) (sym all) ∙ c.loop-k.invariant ∙ ap (λ n. take n (map s us)) all)
 
 pub blocking_part-requires : goal.blocking_part-requires
 blocking_part-requires g c = c.requires.size ∙ sym (width_read c.args.off.now c.into_iter-r-iterator.result (cc) c.loop-r.yielded c.loop-r.r-iterator c.loop-r.yielded_by c.next.result c.next.new.self c.in-Some.r c.in-Some.is c.next.ensures.steps)
@@ -42,8 +59,9 @@ loop-r-preserved-in-Some-blocking_part g c =
     let apart : meets F (map s r) ≡ false = ap (meets F) e ∙ touches_cube off.p off.n (length c.loop-r.yielded) F (map s off.parts.now) c.requires.apart read.0 in
     let o : only_missed 0 F (map s r) ≡ Some k = sym c.blocking_part.ensures.value ∙ c.in-Some-blocking_part.is in
     let below : k < length F = c.blocking_part.ensures.once.within k c.in-Some-blocking_part.is in
+    let x : get_or (map s r) k 0 ≡ s c.index-r-k.result = read_set s r k c.index-r-k.result (omega (arith, width, size, below)) c.index-r-k.is in
     rw (sets_read-push s c.loop-r.yielded c.in-Some.r)
-    (over_step s (take off.p (map s c.args.universe.now)) F (sets_read s c.loop-r.yielded) c.loop-r.over r k _ c.loop-r.invariant size apart o below (search (rules, read_set)))
+    (over_step word_set s (take off.p (map s c.args.universe.now)) F (sets_read s c.loop-r.yielded) c.loop-r.over r k _ c.loop-r.invariant size apart o below (search (rules, read_set)))
 
 pub loop-r-preserved : goal.loop-r-preserved
 loop-r-preserved g c =

@@ -1,5 +1,6 @@
 use Rattle.std.proofs.Common.{◌≡◌, ℕ, ◌+◌, ◌<◌, ◌≤◌, false, true, cond, ◌&&◌, eqb, map, length, get_or, sym, ap, ap₂, ◌∙◌, arith}
 use Rattle.parts.specs.Sets.{minus}
+use Rattle.parts.specs.Models.{word_set}
 use Rattle.cubes.specs.Areas.{cubes, cube_at}
 use Rattle.cubes.specs.Cubes.{covers}
 use Rattle.cubes.proofs.Areas.{map-cube_at}
@@ -16,7 +17,7 @@ add_weights-requires-clause-room g c =
     let X = map s c.args.solution.now.parts.now in
     λ k h.
     let l : k < p = omega arith in
-    omega (arith, c.loop-i.invariant k l, around_le p c.args.at c.loop-i.i k c.args.over.now (cube_at p c.args.at X) X)
+    omega (arith, c.loop-i.invariant k l, around_le p c.args.at c.loop-i.i k (map word_set c.args.over.now) (cube_at p c.args.at X) X)
 
 pub loop-i-preserved : goal.loop-i-preserved
 loop-i-preserved g c = 
@@ -25,7 +26,7 @@ loop-i-preserved g c =
     let at = c.args.at in
     let i = c.loop-i.i in
     let X = map s c.args.solution.now.parts.now in
-    let O = c.args.over.now in
+    let O = map word_set c.args.over.now in
     let F = cube_at p at X in
     let C = cube_at p i X in
     let cube : map s c.cube-cube.result.now ≡ C = ap (map s) c.cube-cube.ensures ∙ map-cube_at s p i c.args.solution.now.parts.now in
