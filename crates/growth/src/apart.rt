@@ -21,5 +21,8 @@ pub fn meets_beside<P: Part>(f: &[P], r: &[P], k: usize) -> bool
     requires { length f.now ≡ length r.now }
     ensures { result ≡ beside k (map P.set f.now) (map P.set r.now) }
 {
-    f.iter().zip(r).enumerate().all(|(i, (x, y))| i == k || shares_value(*x, *y))
+    f.iter()
+        .zip(r)
+        .enumerate()
+        .all(|(i, (x, y))| i == k || shares_value(*x, *y))
 }

@@ -20,7 +20,7 @@ add_weights-requires-clause-room g c =
     omega (arith, c.loop-i.invariant k l, around_le p c.args.at c.loop-i.i k (map word_set c.args.over.now) (cube_at p c.args.at X) X)
 
 pub loop-i-preserved : goal.loop-i-preserved
-loop-i-preserved g c = 
+loop-i-preserved g c =
     let s = g.P.Part.set in
     let p = c.args.solution.now.p in
     let at = c.args.at in
