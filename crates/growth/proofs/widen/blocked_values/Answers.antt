@@ -23,7 +23,7 @@ loop-r-preserved-then-meets_beside g c =
     let width = width_read c.args.off.now c.into_iter-r-iterator.result (cc) c.loop-r.yielded c.loop-r.r-iterator c.loop-r.yielded_by c.next.result c.next.new.self c.in-Some.r c.in-Some.is c.next.ensures.steps in
     let x : get_or (map s r) k 0 ≡ s c.index-r-k.result = read_set s r k c.index-r-k.result (omega (arith, width)) c.index-r-k.is in
     let b : beside k (map s c.args.f.now) (map s r) ≡ true = sym c.meets_beside.ensures ∙ c.if-meets_beside.true in
-    rw (sets_read-push s c.loop-r.yielded c.in-Some.r, blocked_push k (map s c.args.f.now) (sets_read s c.loop-r.yielded) (map s r), b, x, ← c.loop-r.invariant) c.joined-values.ensures.value
+    rw (sets_read-push s c.loop-r.yielded c.in-Some.r, blocked_push k (map s c.args.f.now) (sets_read s c.loop-r.yielded) (map s r), b, x, ← c.loop-r.invariant) (search rules)
 
 pub loop-r-preserved : goal.loop-r-preserved
 loop-r-preserved g c =
