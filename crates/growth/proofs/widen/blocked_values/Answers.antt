@@ -1,4 +1,4 @@
-use Rattle.std.proofs.Common.{◌≡◌, ◌*◌, ◌<◌, ◌≤◌, true, false, cond, length, get_or, map, sym, ap, ap₂, ◌∙◌, arith}
+use Rattle.std.proofs.Common.{◌≡◌, ◌*◌, ◌<◌, ◌≤◌, true, false, cond, length, get_or, map, sym, ap, ap₂, ◌∙◌, arith, rules}
 use lib.Bits.{bit_or, or_zero_r}
 use Rattle.cubes.proofs.Pairs.{read_set}
 use Rattle.moves.specs.Widen.{blocked, beside}
