@@ -1,19 +1,18 @@
 -- The values that block a part, gathered from one cube after another.
-use Rattle.std.proofs.Common.{◌≡◌, ℕ, zero, suc, ◌+◌, ◌-◌, ◌*◌, ◌%◌, ◌^◌, ◌<◌, ◌≤◌, true, false, cond, not, ◌&&◌, ltb, List, [], ◌∷◌, ◌++◌, map, length, get_or, take, drop, set, Some, None, Option, sym, ap, ap₂, ◌∙◌, ⊎_elim, arith}
+use Rattle.std.proofs.Common.{◌≡◌, ℕ, zero, suc, ◌+◌, ◌%◌, ◌^◌, ◌<◌, ◌≤◌, true, false, cond, not, ◌&&◌, ltb, List, [], ◌∷◌, ◌++◌, map, length, get_or, take, set, Some, None, Option, sym, ap, ap₂, ◌∙◌, ⊎_elim, arith}
 use lib.Bits.{bit_or, or_zero_l, or_zero_r}
-use Rattle.std.specs.List.{range_with_len}
 use Rattle.std.proofs.lemmas.List.FromFn.{fill_by_all, get_or-map-range_with_len, length-range_with_len}
-use Rattle.std.proofs.lemmas.List.{get_or-set_same, get_or-set_other, get_or-take, length-take, take-append-drop, set-append_left, set-append_right, length-map, length-set, map-set, take_all, take_more, take_more_set}
+use Rattle.std.proofs.lemmas.List.{get_or-set_same, get_or-set_other, length-take, length-map, length-set, map-set, take_all, take_more, take_more_set}
 use Rattle.std.proofs.lemmas.Bool.{cases_eq, cases_Bool}
 use Rattle.std.proofs.lemmas.Bool.Decides.{nat_tests}
 use Rattle.parts.specs.Sets.{has, minus}
 use Rattle.parts.proofs.Bits.{has-or, has-minus, has_low, has_past, has-none, same}
-use Rattle.cubes.specs.Areas.{cube_at, cubes, put_at}
+use Rattle.cubes.specs.Areas.{cube_at, cubes}
 use Rattle.cubes.specs.Cubes.{Cube, Cover, meets}
-use Rattle.cubes.proofs.Areas.{length-cubes, get_or-cubes, cubes_more, length-cube_at, place_below}
+use Rattle.cubes.proofs.Areas.{length-cubes, get_or-cubes}
 use Rattle.moves.specs.Widen.{touches, beside, blocked}
 use Rattle.moves.specs.Expand.{over}
-use Rattle.growth.specs.Missed.{only_missed, is_at, Once}
+use Rattle.growth.specs.Missed.{only_missed, is_at}
 use Rattle.growth.proofs.Missed.{only_beside}
 
 -- ---- sets
@@ -39,9 +38,6 @@ blocked_push k f [] r = or_zero_r _ ∙ sym (or_zero_l _)
 blocked_push k f (c ∷ R) r =
     let a = cond (beside k f c) (get_or c k 0) 0 in
     ap (bit_or a) (blocked_push k f R r) ∙ sym (or_assoc a (blocked k f R) (cond (beside k f r) (get_or r k 0) 0))
-
-pub blocked_more : (p k j : ℕ) (f : Cube) (X : List ℕ) → blocked k f (cubes p (j + 1) X) ≡ bit_or (blocked k f (cubes p j X)) (cond (beside k f (cube_at p j X)) (get_or (cube_at p j X) k 0) 0)
-blocked_more p k j f X = ap (blocked k f) (cubes_more p j X) ∙ blocked_push k f (cubes p j X) (cube_at p j X)
 
 touches_at : (f : Cube) (R : Cover) (i : ℕ) → touches f R ≡ false → i < length R → meets f (get_or R i []) ≡ false
 touches_at f [] i h l = absurd (omega arith)
@@ -127,13 +123,3 @@ module _ {X Y : Type 0} (word : Y → ℕ) (s : X → ℕ) where
       map-set word ws k v
       ∙ ap₂ (λ (A : List ℕ) (n : ℕ). set A k n) inv (q ∙ ap (λ (A : Cube). minus (get_or A k 0) (get_or (map s r) k 0)) inv)
       ∙ over-less U f R (map s r) (size ∙ sym (length-map r s)) apart k e h
-
--- ---- cubes that were read
-
--- a cube that was read has p parts
-pub length_read : {X : Type 0} (p i n : ℕ) (xs r : List X) → i < n → n * p ≤ length xs → r ≡ cube_at p i xs → length r ≡ p
-length_read p i n xs r h l e = ap length e ∙ length-cube_at p i xs (omega (arith, place_below i n p h))
-
--- the part found in it is one of them
-pub found_below : {X : Type 0} (s : X → ℕ) (p k : ℕ) (f r : List X) (o : Option ℕ) → length f ≡ p → Once (map s f) (map s r) o → o ≡ Some k → k < p
-found_below s p k f r o e h q = omega (arith, h.within k q, length-map f s)

@@ -1,11 +1,9 @@
 -- A cube that grows part after part.
-use Rattle.std.proofs.Common.{◌≡◌, ℕ, zero, suc, ◌+◌, ◌<◌, ◌≤◌, Bool, true, false, not, cond, List, [], ◌∷◌, length, get_or, take, set, replicate, count_by, Some, None, sym, refl, ap, ◌∙◌, ap₂, arith}
-use Rattle.std.proofs.lemmas.List.{take-replicate, length-replicate}
+use Rattle.std.proofs.Common.{◌≡◌, ℕ, zero, suc, ◌+◌, ◌<◌, Bool, true, false, not, cond, List, [], ◌∷◌, length, get_or, set, replicate, count_by, Some, sym, refl, ap, ◌∙◌, arith}
 use Rattle.std.proofs.lemmas.List.Sums.{sum_by-set, sum_by-cons}
 use Rattle.cubes.specs.Cubes.{Cube, Cover}
 use Rattle.moves.specs.Widen.{widened}
 use Rattle.moves.specs.Expand.{part_weight, over, widen_at, growing, grown, Growth}
-use Rattle.orders.specs.Bests.{Found}
 use Rattle.orders.specs.Searches.{lightest}
 
 -- ---- the parts that have not grown yet

@@ -1,12 +1,11 @@
 -- The one part in which cubes share no value, step by step, and what it says.
-use Rattle.std.proofs.Common.{◌≡◌, ℕ, zero, suc, ◌+◌, ◌-◌, ◌<◌, ◌≤◌, Bool, true, false, cond, not, ◌&&◌, ◌||◌, eqb, ltb, List, [], ◌∷◌, map, length, get_or, take, drop, set, Some, None, Option, sym, refl, ap, ◌∙◌, add-one, arith}
+use Rattle.std.proofs.Common.{◌≡◌, ℕ, zero, suc, ◌+◌, ◌-◌, ◌<◌, ◌≤◌, Bool, true, false, cond, not, ◌&&◌, ◌||◌, eqb, ltb, List, [], ◌∷◌, map, length, get_or, take, drop, Some, None, Option, sym, refl, ap, ◌∙◌, arith}
 use lib.Bits.{bit_and}
 use Rattle.std.specs.List.{zip, list_all, enumerate_from, position_or_len}
-use Rattle.std.proofs.lemmas.List.{take_all, drop-map, length-drop, drop_all, drop_more, length-set, length-map, get_or-set_same, get_or-set_other}
+use Rattle.std.proofs.lemmas.List.{take_all, drop-map, length-drop, length-map}
 use Rattle.std.proofs.lemmas.Bool.Decides.{nat_tests}
 use Rattle.parts.specs.Sets.{some}
 use Rattle.cubes.specs.Cubes.{Cube, meets}
-use Rattle.cubes.proofs.Pairs.{left-set}
 use Rattle.moves.specs.Widen.{beside}
 use Rattle.moves.specs.Expand.{misses}
 use Rattle.moves.proofs.Links.{beside_once, meets-misses}

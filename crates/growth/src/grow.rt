@@ -25,6 +25,7 @@ pub fn grow<P: Part>(universe: &[P], off: &Cubes<P>, n: usize, at: usize, soluti
     ensures behind { drop (at * off.now.p + off.now.p) solution.new ≡ drop (at * off.now.p + off.now.p) solution.old }
 {
     let p = off.width();
+    // No heap: room for as many parts as there can be.
     let mut over = [Word(0); 16];
     let mut weights = [0; 16];
     let mut taken = [false; 16];

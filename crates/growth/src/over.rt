@@ -1,5 +1,5 @@
 //! The over-expanded cube: each part as far as the off list lets it grow while the other parts stay.
-//! It is kept as words, since of 16 parts of any kind nobody knows that they fit in memory.
+//! It is kept as words: that 16 of them fit in memory is known, and of parts of any kind it is not.
 ghost use Rattle.std.specs.Prelude.{◌≡◌, ◌≤◌, false, map, length, take};
 ghost use Rattle.parts.specs.Models.{word_set};
 ghost use Rattle.cubes.specs.Lists.{sets_of};

@@ -15,7 +15,7 @@ use parts::{Part, Word, lies_within};
 pub(crate) fn add_weights<P: Part>(cube: &[P], f: &[P], weights: &mut [usize])
     requires cube { length cube.now ≡ length weights.old }
     requires f { length f.now ≡ length weights.old }
-    requires room { (k : ℕ) → k < length weights.old → slice_index weights.old k < 18446744073709551615 }
+    requires room { (k : ℕ) → k < length weights.old → slice_index weights.old k < usize.MAX }
     ensures { (k : ℕ) → k < length weights.old → slice_index weights.new k ≡ slice_index weights.old k + (if minus (slice_index (map P.set cube.now) k) (slice_index (map P.set f.now) k) == 0 then 1 else 0) }
 {
     for (k, (x, y)) in cube.iter().zip(f).enumerate() {
@@ -26,6 +26,7 @@ pub(crate) fn add_weights<P: Part>(cube: &[P], f: &[P], weights: &mut [usize])
 }
 
 /// Whether each part of the cube lies within its word.
+// Not `covers`: that is of two cubes of one kind, and to make words of the parts costs more than parts of the words.
 pub(crate) fn within_words<P: Part>(cube: &[P], words: &[Word]) -> bool
     ensures { result ≡ covers (map word_set words.now) (map P.set cube.now) }
 {
@@ -42,6 +43,7 @@ pub fn part_weights<P: Part>(over: &[Word], at: usize, solution: &Cubes<P>, weig
 {
     weights.fill(0);
     let f = solution.cube(at);
+    // By place: `enumerate` wants the number of cubes to fit in a word, which only `len` shows.
     for i in 0..solution.len() {
         let cube = solution.cube(i);
         if i != at && within_words(cube, over) {

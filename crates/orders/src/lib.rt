@@ -69,6 +69,17 @@ impl<O: Order> Order for Reverse<O> {
     }
 }
 
+// An order that is lent is the same order.
+impl<O: Order> Order for &O {
+    ghost before = { λ o. O.before o.now };
+
+    ghost ordered = { Prim.search rules };
+
+    fn comes_before(&self, a: Rank, b: Rank) -> bool {
+        (**self).comes_before(a, b)
+    }
+}
+
 /// One of two orders.
 #[derive(Clone, Copy, Drop)]
 pub enum Either<A, B> {
@@ -90,6 +101,7 @@ impl<A: Order, B: Order> Order for Either<A, B> {
 }
 
 /// How an order that is lent is taken: as it is, or turned round.
+// Beside `Reverse`, which is another type: here one type of order is taken both ways, as the program runs.
 #[derive(Clone, Copy)]
 pub enum Direction {
     Along,
@@ -157,14 +169,4 @@ pub fn order_of(byte: u8) -> Option<Chosen>
     ensures { result ≡ order_of byte }
 {
     Chosen::try_from(byte).ok()
-}
-
-impl<O: Order> Order for &O {
-    ghost before = { λ o. O.before o.now };
-
-    ghost ordered = { Prim.search rules };
-
-    fn comes_before(&self, a: Rank, b: Rank) -> bool {
-        (**self).comes_before(a, b)
-    }
 }

@@ -76,6 +76,7 @@ fn rank_of_part(weights: &[usize], k: usize) -> Rank
 }
 
 /// The lightest of the parts that are not taken, the lower number first.
+// Not `first_where`: the weights and the marks lie in two lists, and there is no list of what it looks at.
 pub fn lightest_part(weights: &[usize], taken: &[bool]) -> Option<usize>
     requires { length weights.now ≡ length taken.now }
     ensures value { result ≡ lightest (length taken.now) (λ k. slice_index weights.now k) taken.now }

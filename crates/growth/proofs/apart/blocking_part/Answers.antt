@@ -1,9 +1,7 @@
-use Rattle.std.proofs.Common.{◌≡◌, ◌+◌, ◌-◌, length, map, take, drop, None, sym, ap, ap₂, ◌∙◌, subst, rules, tests, arith}
-use Rattle.std.specs.List.{zip, position_or_len}
+use Rattle.std.proofs.Common.{◌≡◌, ◌+◌, map, None, sym, ◌∙◌, subst, rules, tests, arith}
 use Rattle.std.proofs.lemmas.Iterator.{YieldsList-from_slice, YieldsList-from_zip}
 use Rattle.std.proofs.lemmas.Iterator.Search.{position_from_yields_List}
-use Rattle.cubes.specs.Cubes.{meets}
-use Rattle.growth.specs.Missed.{only_missed, Once}
+use Rattle.growth.specs.Missed.{Once}
 use Rattle.growth.proofs.Missed.{shares_none, only-none, only-some, only_once, behind-set}
 use Rattle.std.proofs.lemmas.List.{length-map}
 use Rattle.growth.proofs.apart.blocking_part.Goals as goal

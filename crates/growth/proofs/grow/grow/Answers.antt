@@ -1,9 +1,9 @@
-use Rattle.std.proofs.Common.{◌≡◌, ℕ, ◌+◌, ◌-◌, ◌*◌, ◌<◌, ◌≤◌, false, true, not, map, length, get_or, take, drop, set, replicate, Some, None, sym, refl, ap, ap₂, ◌∙◌, subst, arith, rules}
+use Rattle.std.proofs.Common.{◌≡◌, ℕ, ◌+◌, ◌-◌, ◌*◌, ◌<◌, ◌≤◌, false, true, not, map, length, get_or, take, drop, set, replicate, Some, None, sym, refl, ap, ap₂, ◌∙◌, subst, arith}
 use borrow.Rule.Slice.PartMut.{put_mid}
 use Rattle.std.proofs.lemmas.List.{length-map, length-take, length-drop, get_or-take, take-replicate}
 use Rattle.std.proofs.lemmas.Slice.{take-put_mid_below, drop-put_mid}
 use Rattle.parts.specs.Models.{word_set}
-use Rattle.cubes.specs.Areas.{cube_at, cubes, put_at}
+use Rattle.cubes.specs.Areas.{cube_at, cubes}
 use Rattle.cubes.specs.Lists.{sets_of}
 use Rattle.cubes.proofs.Areas.{place_below, length-cube_at, map-cube_at, put_part}
 use Rattle.moves.specs.Widen.{touches, widened}

@@ -1,5 +1,5 @@
-use Rattle.std.proofs.Common.{◌≡◌, ◌^◌, ◌<◌, ◌≤◌, false, map, length, get_or, take, set, Some, None, sym, refl, ap, ◌∙◌, arith, rules}
-use Rattle.std.proofs.lemmas.List.{length-take, get_or-take, length-map, map-set}
+use Rattle.std.proofs.Common.{◌≡◌, ◌<◌, false, map, length, get_or, take, Some, None, sym, ap, ◌∙◌, arith, rules}
+use Rattle.std.proofs.lemmas.List.{length-take, get_or-take, length-map}
 use Rattle.parts.specs.Models.{word_set}
 use Rattle.cubes.specs.Areas.{cube_at}
 use Rattle.cubes.specs.Cubes.{meets}

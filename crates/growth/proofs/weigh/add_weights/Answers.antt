@@ -1,10 +1,10 @@
-use Rattle.std.proofs.Common.{◌≡◌, ℕ, ◌+◌, ◌<◌, Bool, eqb, map, length, get_or, true, false, sym, ap, ap₂, ◌∙◌, arith}
+use Rattle.std.proofs.Common.{◌≡◌, ℕ, Bool, eqb, map, length, get_or, true, false, sym, ap₂, ◌∙◌, arith}
 use Rattle.std.proofs.lemmas.List.{length_push}
 use Rattle.std.proofs.lemmas.Iterator.{YieldsList-from_slice, YieldsList-from_zip}
 use Rattle.std.proofs.lemmas.Iterator.Consumers.{YieldsList-at, YieldsList-from_enumerate, YieldsList-turn}
 use Rattle.parts.specs.Sets.{minus}
 use Rattle.cubes.proofs.Pairs.{read_set}
-use Rattle.growth.proofs.Weighed.{Adding, adding_true, adding_false}
+use Rattle.growth.proofs.Weighed.{adding_true, adding_false}
 use Rattle.growth.proofs.Lists.{pair_read}
 use Rattle.growth.proofs.weigh.add_weights.Goals as goal
 

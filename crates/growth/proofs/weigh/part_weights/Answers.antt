@@ -1,11 +1,9 @@
-use Rattle.std.proofs.Common.{◌≡◌, ℕ, ◌+◌, ◌<◌, ◌≤◌, false, true, cond, ◌&&◌, eqb, map, length, get_or, sym, ap, ap₂, ◌∙◌, arith}
+use Rattle.std.proofs.Common.{◌≡◌, ℕ, ◌+◌, ◌<◌, false, true, cond, ◌&&◌, eqb, map, get_or, sym, ap, ap₂, ◌∙◌, arith}
 use Rattle.parts.specs.Sets.{minus}
 use Rattle.parts.specs.Models.{word_set}
-use Rattle.cubes.specs.Areas.{cubes, cube_at}
+use Rattle.cubes.specs.Areas.{cube_at}
 use Rattle.cubes.specs.Cubes.{covers}
 use Rattle.cubes.proofs.Areas.{map-cube_at}
-use Rattle.moves.specs.Expand.{part_weight}
-use Rattle.growth.specs.Others.{others}
 use Rattle.growth.proofs.Weighed.{adds, around_le, around-itself, around_more}
 use Rattle.growth.proofs.weigh.part_weights.Goals as goal
 use Rattle.growth.proofs.weigh.part_weights.Goals.{then-i-at+then-within_words, else-i-at, else-i-at-via-then-i-at+else-within_words, else-i-at-via-else-i-at}

@@ -1,4 +1,4 @@
-use Rattle.std.proofs.Common.{◌≡◌, ℕ, ◌<◌, map, length, get_or}
+use Rattle.std.proofs.Common.{◌≡◌, ℕ, ◌<◌, map, get_or}
 use Rattle.parts.specs.Models.{word_set}
 use Rattle.cubes.specs.Areas.{cubes, cube_at}
 use Rattle.moves.specs.Expand.{part_weight}

@@ -1,5 +1,5 @@
-use Rattle.std.proofs.Common.{◌≡◌, ◌*◌, ◌<◌, ◌≤◌, true, false, cond, length, get_or, map, sym, ap, ap₂, ◌∙◌, arith, rules}
-use lib.Bits.{bit_or, or_zero_r}
+use Rattle.std.proofs.Common.{◌≡◌, true, false, get_or, map, sym, ap, ◌∙◌, arith, rules}
+use lib.Bits.{or_zero_r}
 use Rattle.cubes.proofs.Pairs.{read_set}
 use Rattle.moves.specs.Widen.{blocked, beside}
 use Rattle.growth.proofs.Blocked.{blocked_push}
