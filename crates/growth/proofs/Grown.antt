@@ -1,85 +1,54 @@
--- A cube that grows part after part in an area.
-use Rattle.std.proofs.Common.{◌≡◌, ℕ, zero, suc, ◌+◌, ◌-◌, ◌*◌, ◌<◌, ◌≤◌, Bool, true, false, List, [], ◌∷◌, ◌++◌, length, get_or, take, drop, set, replicate, Some, None, sym, refl, ap, ◌∙◌, ap₂, arith}
-use Rattle.std.proofs.lemmas.List.{length-set, get_or-take, take-append-drop, take-replicate, drop-drop}
-use Rattle.cubes.specs.Areas.{cube_at, put_at}
+-- A cube that grows part after part.
+use Rattle.std.proofs.Common.{◌≡◌, ℕ, zero, suc, ◌+◌, ◌<◌, Bool, true, false, not, cond, List, [], ◌∷◌, length, get_or, set, replicate, count_by, Some, sym, refl, ap, ◌∙◌, arith}
+use Rattle.std.proofs.lemmas.List.Sums.{sum_by-set, sum_by-cons}
 use Rattle.cubes.specs.Cubes.{Cube, Cover}
-use Rattle.cubes.proofs.Areas.{length-cube_at, take_put, drop-put, cube_at-put}
 use Rattle.moves.specs.Widen.{widened}
 use Rattle.moves.specs.Expand.{part_weight, over, widen_at, growing, grown, Growth}
 use Rattle.orders.specs.Searches.{lightest}
-use Rattle.orders.proofs.Cards.{lightest_alike}
 
--- the lightest of p parts, by weights and marks that agree on them
-pub lightest-same : (p : ℕ) (w v : ℕ → ℕ) (t : List Bool) → ((k : ℕ) → k < p → v k ≡ w k) → lightest p v t ≡ lightest p w (take p t)
-lightest-same p w v t e = lightest_alike p v w t (take p t) e (λ k l. sym (get_or-take p t k false l))
+-- ---- the parts that have not grown yet
 
--- ---- an area with one cube written again
+-- one less
+pub count-set : (t : List Bool) (k : ℕ) → k < length t → get_or t k false ≡ false → count_by not t ≡ suc (count_by not (set t k true))
+count-set t k h e =
+    let f : ◌≡◌ {A = ℕ} (cond (not (get_or t k false)) 1 0) 1 = ap (λ b. cond (not b) 1 0) e in
+    let q : count_by not (set t k true) + cond (not (get_or t k false)) 1 0 ≡ count_by not t + 0 = sum_by-set (λ b. cond (not b) 1 0) t k true false h in
+    omega (arith, q, f)
 
-put-put : (p i : ℕ) (c d xs : List ℕ) → i * p + p ≤ length xs → length c ≡ p → put_at p i d (put_at p i c xs) ≡ put_at p i d xs
-put-put p i c d xs h e =
-    ap₂ (λ (A B : List ℕ). A ++ (d ++ B)) (take_put p i c xs h e (i * p) (omega arith))
-    (drop-drop p (i * p) (put_at p i c xs) ∙ drop-put p i c xs h e (i * p + p) (omega arith) ∙ sym (drop-drop p (i * p) xs))
+-- none, where every part is marked
+pub count-none : (t : List Bool) → ((k : ℕ) → k < length t → not (get_or t k false) ≡ false) → count_by not t ≡ 0
+count-none [] h = refl
+count-none (b ∷ t) h =
+    let f : ◌≡◌ {A = ℕ} (cond (not b) 1 0) 0 = ap (λ c. cond c 1 0) (h 0 (omega arith)) in
+    let q : count_by not (b ∷ t) ≡ cond (not b) 1 0 + count_by not t = sum_by-cons (λ c. cond (not c) 1 0) b t in
+    omega (arith, q, f, count-none t (λ k l. h (suc k) (omega arith)))
 
-put_same : (p i : ℕ) (xs : List ℕ) → xs ≡ put_at p i (cube_at p i xs) xs
-put_same p i xs = sym (ap (λ L. take (i * p) xs ++ L) (take-append-drop p (drop (i * p) xs)) ∙ take-append-drop (i * p) xs)
-
-take_set_in : {X : Type 0} (n k : ℕ) (t : List X) (v : X) → take n (set t k v) ≡ set (take n t) k v
-take_set_in zero k t v = refl
-take_set_in (suc n) k [] v = refl
-take_set_in (suc n) zero (x ∷ t) v = refl
-take_set_in (suc n) (suc k) (x ∷ t) v = ap (λ L. x ∷ L) (take_set_in n k t v)
+-- all, where none is marked
+pub count-all : (n : ℕ) → count_by not (replicate n false) ≡ n
+count-all zero = refl
+count-all (suc n) =
+    let q : count_by not (false ∷ replicate n false) ≡ 1 + count_by not (replicate n false) = sum_by-cons (λ c. cond (not c) 1 0) false (replicate n false) in
+    omega (arith, q, count-all n)
 
 -- ---- part after part
 
--- i parts have grown: the marks t, and the area X that was E
-abbrev pub Grows : ℕ → ℕ → Cube → Cover → (ℕ → ℕ) → List ℕ → ℕ → List Bool → List ℕ → Type 0
-Grows p at U R w E i t X =
-    (length t ≡ 16) × (X ≡ put_at p at (cube_at p at X) E)
-    × (growing (p - i) p w U R (take p t, cube_at p at X) ≡ growing p p w U R (replicate p false, cube_at p at E))
+module _ (p : ℕ) (w : ℕ → ℕ) (U : Cube) (R : Cover) where
+  -- what has grown, and what the rest makes of it
+  abbrev pub growing_on : List Bool → Cube → Growth
+  growing_on t f = growing (count_by not t) p w U R (t, f)
 
-module _ (p at : ℕ) (U : Cube) (R : Cover) (w : ℕ → ℕ) (E : List ℕ) where
-  pub grows_none : p ≤ 16 → Grows p at U R w E 0 (replicate 16 false) E
-  grows_none h =
-      let e : p - 0 ≡ p = omega arith in (
-        refl,
-        put_same p at E,
-        ap (λ n. growing n p w U R (take p (replicate 16 false), cube_at p at E)) e
-            ∙ ap (λ t. growing p p w U R (t, cube_at p at E)) (take-replicate p 16 false h),
-      )
+  pub grows-start : (t : List Bool) (f : Cube) → t ≡ replicate p false → growing_on t f ≡ growing p p w U R (replicate p false, f)
+  grows-start t f e = ap (λ u. growing (count_by not u) p w U R (u, f)) e ∙ ap (λ n. growing n p w U R (replicate p false, f)) (count-all p)
 
-  next : (i : ℕ) (s : Growth) → i < p → growing (p - i) p w U R s ≡ growing (p - (i + 1)) p w U R (widen_at U R s (lightest p w s.0))
-  next i s h = let e : p - i ≡ suc (p - (i + 1)) = omega arith in ap (λ n. growing n p w U R s) e
+  pub grows-one : (t : List Bool) (f : Cube) (k : ℕ) → lightest p w t ≡ Some k → k < length t → get_or t k false ≡ false
+      → growing_on (set t k true) (widened k (get_or U k 0) f R) ≡ growing_on t f
+  grows-one t f k e h m =
+      sym (ap (λ n. growing n p w U R (t, f)) (count-set t k h m) ∙ ap (λ q. growing (count_by not (set t k true)) p w U R (widen_at U R (t, f) q)) e)
 
-  pub grows_skip : (i : ℕ) (t : List Bool) (X : List ℕ) → i < p → lightest p w (take p t) ≡ None → Grows p at U R w E i t X → Grows p at U R w E (i + 1) t X
-  grows_skip i t X h o inv = (
-    inv.0,
-    inv.1,
-    sym (next i (take p t, cube_at p at X) h ∙ ap (λ q. growing (p - (i + 1)) p w U R (widen_at U R (take p t, cube_at p at X) q)) o) ∙ inv.2,
-  )
+  pub grows-end : (t : List Bool) (f : Cube) → ((k : ℕ) → k < length t → not (get_or t k false) ≡ false) → growing_on t f ≡ (t, f)
+  grows-end t f h = ap (λ n. growing n p w U R (t, f)) (count-none t h)
 
-  pub grows_some : (i k : ℕ) (t : List Bool) (X Y : List ℕ) → i < p → at * p + p ≤ length E → at * p + p ≤ length X → lightest p w (take p t) ≡ Some k
-      → Y ≡ put_at p at (widened k (get_or U k 0) (cube_at p at X) R) X → Grows p at U R w E i t X → Grows p at U R w E (i + 1) (set t k true) Y
-  grows_some i k t X Y h le lx o y inv =
-      let f : Cube = cube_at p at X in
-      let g : Cube = widened k (get_or U k 0) f R in
-      let lf : length f ≡ p = length-cube_at p at X lx in
-      let lg : length g ≡ p = length-set f k _ ∙ lf in
-      let c : cube_at p at Y ≡ g = ap (cube_at p at) y ∙ cube_at-put p at g X lx lg in (
-        length-set t k true ∙ inv.0,
-        y ∙ ap (put_at p at g) inv.1 ∙ put-put p at f g E le lf ∙ ap (λ d. put_at p at d E) (sym c),
-        ap₂ (λ (m : List Bool) (d : Cube). growing (p - (i + 1)) p w U R (m, d)) (take_set_in p k t true) c
-            ∙ sym (next i (take p t, f) h ∙ ap (λ q. growing (p - (i + 1)) p w U R (widen_at U R (take p t, f) q)) o) ∙ inv.2,
-      )
-
--- all parts have grown
-pub grows_all : (p at : ℕ) (U : Cube) (R : Cover) (C : Cover) (E : List ℕ) (t : List Bool) (X : List ℕ) → at * p + p ≤ length E
-    → Grows p at U R (part_weight (over U (cube_at p at E) R) (cube_at p at E) C) E p t X → X ≡ put_at p at (grown U R (cube_at p at E) C) E
+-- all parts of f have grown
+pub grown-all : (p : ℕ) (U f : Cube) (R C : Cover) (s : Growth) → length f ≡ p → s ≡ growing p p (part_weight (over U f R) f C) U R (replicate p false, f) → s.1 ≡ grown U R f C
 unfolding grown
-grows_all p at U R C E t X h inv =
-    let f : Cube = cube_at p at E in
-    let w : ℕ → ℕ = part_weight (over U f R) f C in
-    let z : p - p ≡ 0 = omega arith in
-    let e : (take p t, cube_at p at X) ≡ growing p p w U R (replicate p false, f) =
-    sym (ap (λ n. growing n p w U R (take p t, cube_at p at X)) z) ∙ inv.2 in
-    let l : p ≡ length f = sym (length-cube_at p at E h) in
-    inv.1 ∙ ap (λ d. put_at p at d E) (ap (λ (s : Growth). s.1) e ∙ ap (λ n. (growing n n w U R (replicate n false, f)).1) l)
+grown-all p U f R C s l e = ap (λ (s : Growth). s.1) e ∙ ap (λ n. (growing n n (part_weight (over U f R) f C) U R (replicate n false, f)).1) (sym l)

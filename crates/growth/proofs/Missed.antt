@@ -1,55 +1,66 @@
 -- The one part in which cubes share no value, step by step, and what it says.
-use Rattle.std.proofs.Common.{◌≡◌, ℕ, zero, suc, ◌+◌, ◌<◌, ◌≤◌, Bool, true, false, cond, not, ◌&&◌, eqb, List, [], ◌∷◌, map, length, get_or, drop, set, Some, None, Option, sym, refl, ap, ◌∙◌, add-one, arith}
+use Rattle.std.proofs.Common.{◌≡◌, ℕ, zero, suc, ◌+◌, ◌-◌, ◌<◌, ◌≤◌, Bool, true, false, cond, not, ◌&&◌, ◌||◌, eqb, ltb, List, [], ◌∷◌, map, length, get_or, take, drop, Some, None, Option, sym, refl, ap, ◌∙◌, arith}
 use lib.Bits.{bit_and}
-use Rattle.std.proofs.lemmas.List.{drop_all, drop_more, length-set, get_or-set_same, get_or-set_other}
+use Rattle.std.specs.List.{zip, list_all, enumerate_from, position_or_len}
+use Rattle.std.proofs.lemmas.List.{take_all, drop-map, length-drop, length-map}
 use Rattle.std.proofs.lemmas.Bool.Decides.{nat_tests}
 use Rattle.parts.specs.Sets.{some}
 use Rattle.cubes.specs.Cubes.{Cube, meets}
-use Rattle.cubes.proofs.Pairs.{left-set}
 use Rattle.moves.specs.Widen.{beside}
 use Rattle.moves.specs.Expand.{misses}
-use Rattle.moves.proofs.Links.{beside_once}
+use Rattle.moves.proofs.Links.{beside_once, meets-misses}
 use Rattle.growth.specs.Missed.{only_missed, is_at, Once}
 
--- ---- the search, part by part
+-- ---- the first part found, and whether the cubes meet behind it
 
--- what the search ends with: from the part found so far, and the parts that are left
-abbrev pub awaited : Option ℕ → ℕ → Cube → Cube → Option ℕ
-awaited None k A B = only_missed k A B
-awaited (Some j) k A B = cond (eqb (misses A B) 0) (Some j) None
+-- the two share no value
+abbrev pub shares_none : {X : Type 0} → (X → ℕ) → X × X → Bool
+shares_none s q = not (some (bit_and (s q.0) (s q.1)))
 
-pub awaited_end : (o : Option ℕ) (k : ℕ) (A B : Cube) → length A ≤ k → awaited o k (drop k A) (drop k B) ≡ o
-awaited_end o k A B h = rw (drop_all k A h) (by o)
-  where
-    by : (o : Option ℕ) → awaited o k [] (drop k B) ≡ o
-    by None = refl
-    by (Some j) = refl
+module _ {X : Type 0} (s : X → ℕ) where
+  abbrev first : List X → List X → ℕ
+  first xs ys = position_or_len (shares_none s) (zip xs ys)
 
-shared : (o : Option ℕ) (k a b : ℕ) (A B : Cube) → some (bit_and a b) ≡ true → awaited o k (a ∷ A) (b ∷ B) ≡ awaited o (suc k) A B
-shared None k a b A B h = rw h
-shared (Some j) k a b A B h = let z : 0 + misses A B ≡ misses A B = omega arith in rw (h, z)
+  abbrev pub answered : ℕ → ℕ → List X → List X → Option ℕ
+  answered m k xs ys = cond (meets (drop (k + 1) (map s xs)) (drop (k + 1) (map s ys))) (Some (m + k)) None
 
-module _ {X : Type 0} (s : X → ℕ) (xs ys : List X) (k : ℕ) (x y : X) (hx : k < length xs) (hy : k < length ys) (ex : x ≡ get_or xs k x) (ey : y ≡ get_or ys k y) where
-  step : (o : Option ℕ) → awaited o k (drop k (map s xs)) (drop k (map s ys)) ≡ awaited o k (s x ∷ drop (k + 1) (map s xs)) (s y ∷ drop (k + 1) (map s ys))
-  step o = rw (left-set s xs k x hx ex, left-set s ys k y hy ey)
+  abbrev by_first : ℕ → List X → List X → Option ℕ
+  by_first m xs ys = cond (ltb (first xs ys) (length (zip xs ys))) (answered m (first xs ys) xs ys) None
 
-  -- a part in which they share a value
-  pub awaited-shared : (o : Option ℕ) → some (bit_and (s x) (s y)) ≡ true
-      → awaited o k (drop k (map s xs)) (drop k (map s ys)) ≡ awaited o (k + 1) (drop (k + 1) (map s xs)) (drop (k + 1) (map s ys))
-  awaited-shared o h = step o ∙ shared o k (s x) (s y) _ _ h ∙ ap (λ n. awaited o n (drop (k + 1) (map s xs)) (drop (k + 1) (map s ys))) (sym (add-one k))
-
-  -- the first in which they share none
-  pub awaited-first : some (bit_and (s x) (s y)) ≡ false
-      → awaited None k (drop k (map s xs)) (drop k (map s ys)) ≡ awaited (Some k) (k + 1) (drop (k + 1) (map s xs)) (drop (k + 1) (map s ys))
-  awaited-first h = step None ∙ rw h
-
-  -- a second one
-  pub awaited_second : (o : Option ℕ) {j : ℕ} → o ≡ Some j → some (bit_and (s x) (s y)) ≡ false → awaited o k (drop k (map s xs)) (drop k (map s ys)) ≡ None
-  awaited_second o {j} e h =
-      ap (λ q. awaited q k (drop k (map s xs)) (drop k (map s ys))) e ∙ step (Some j) ∙ rw h (by (misses (drop (k + 1) (map s xs)) (drop (k + 1) (map s ys))))
+  only_first : (m : ℕ) (xs ys : List X) → length xs ≡ length ys → only_missed m (map s xs) (map s ys) ≡ by_first m xs ys
+  only_first m [] ys e = refl
+  only_first m (x ∷ xs) [] e = absurd (omega arith)
+  only_first m (x ∷ xs) (y ∷ ys) e = by (some (bit_and (s x) (s y))) (only_first (suc m) xs ys (omega arith)) (meets-misses (map s xs) (map s ys) (simp length-map (omega arith)))
     where
-      by : (n : ℕ) → ◌≡◌ {A = Option ℕ} (cond (eqb (1 + n) 0) (Some j) None) None
-      by n = let e : eqb (1 + n) 0 ≡ false = grind (arith, nat_tests) in rw e
+      by : (t : Bool) → only_missed (suc m) (map s xs) (map s ys) ≡ by_first (suc m) xs ys → meets (map s xs) (map s ys) ≡ eqb (misses (map s xs) (map s ys)) 0
+          → cond t (only_missed (suc m) (map s xs) (map s ys)) (cond (eqb (misses (map s xs) (map s ys)) 0) (Some m) None)
+          ≡ (let k : ℕ = cond (not (not t)) (1 + first xs ys) 0 in cond (ltb k (suc (length (zip xs ys)))) (answered m k (x ∷ xs) (y ∷ ys)) None)
+      by true h g =
+          let k = first xs ys in
+          let l : ltb (1 + k) (suc (length (zip xs ys))) ≡ ltb k (length (zip xs ys)) = grind (arith, nat_tests) in
+          let d : 1 + k + 1 ≡ suc (k + 1) = omega arith in
+          let n : m + (1 + k) ≡ suc m + k = omega arith in
+          rw (l, d, n) h
+      by false h g =
+          let l : ltb 0 (suc (length (zip xs ys))) ≡ true = grind (arith, nat_tests) in
+          let n : m + 0 ≡ m = omega arith in
+          rw (l, n, g)
+
+  -- what the search for a first answered
+  module _ (xs ys : List X) (e : length xs ≡ length ys) (o : Option ℕ) (h : o ≡ cond (ltb (first xs ys) (length (zip xs ys))) (Some (first xs ys)) None) where
+    pub only-none : o ≡ None → only_missed 0 (map s xs) (map s ys) ≡ None
+    only-none q = only_first 0 xs ys e ∙ by (ltb (first xs ys) (length (zip xs ys))) (sym h ∙ q)
+      where
+        by : (t : Bool) → cond t (Some (first xs ys)) None ≡ None → cond t (answered 0 (first xs ys) xs ys) None ≡ None
+        by true q = cc
+        by false q = refl
+
+    pub only-some : (k : ℕ) → o ≡ Some k → only_missed 0 (map s xs) (map s ys) ≡ answered 0 k xs ys
+    only-some k q = only_first 0 xs ys e ∙ by (ltb (first xs ys) (length (zip xs ys))) (sym h ∙ q)
+      where
+        by : (t : Bool) → cond t (Some (first xs ys)) None ≡ Some k → cond t (answered 0 (first xs ys) xs ys) None ≡ answered 0 k xs ys
+        by true q = let i : first xs ys ≡ k = cc in rw i
+        by false q = cc
 
 -- ---- what was found
 
@@ -122,27 +133,35 @@ only_once f r e = record {
   blocks = λ m k h. only_beside k f r e h m;
 }
 
+-- what is left of a cube behind its first parts
+pub behind-set : {X : Type 0} (s : X → ℕ) (n : ℕ) (xs : List X) → map s (take (length xs - n) (drop n xs)) ≡ drop n (map s xs)
+behind-set s n xs = let h : length (drop n xs) ≤ length xs - n = simp length-drop (omega arith) in ap (map s) (take_all (length xs - n) (drop n xs) h) ∙ sym (drop-map s n xs)
+
 -- ---- cubes that meet in each part but one
 
-both_one : (k : ℕ) (f : Cube) → k < length f → drop k (set f k 1) ≡ 1 ∷ drop (k + 1) (set f k 1)
-both_one k f h =
-    let l : k < length (set f k 1) = rw length-set h in
-    drop_more (set f k 1) k 0 l ∙ ap (λ n. n ∷ drop (k + 1) (set f k 1)) (get_or-set_same f k 1 0 h)
+-- a part is k, or they share a value in it
+abbrev pub passes : {X : Type 0} → (X → ℕ) → ℕ → ℕ × (X × X) → Bool
+passes s k q = eqb q.0 k || some (bit_and (s q.1.0) (s q.1.1))
 
--- part k is passed over
-pub beside-passed : (k : ℕ) (f r : Cube) → k < length f → k < length r
-    → meets (drop k (set f k 1)) (drop k (set r k 1)) ≡ meets (drop (k + 1) (set f k 1)) (drop (k + 1) (set r k 1))
-beside-passed k f r h l = rw (both_one k f h, both_one k r l)
+module _ {X : Type 0} (s : X → ℕ) where
+  past : (m k : ℕ) (xs ys : List X) → k < m → list_all (passes s k) (enumerate_from m (zip xs ys)) ≡ meets (map s xs) (map s ys)
+  past m k [] ys h = refl
+  past m k (x ∷ xs) [] h = refl
+  past m k (x ∷ xs) (y ∷ ys) h =
+      let n : eqb m k ≡ false = grind (arith, nat_tests) in
+      rw n (ap (λ b. some (bit_and (s x) (s y)) && b) (past (m + 1) k xs ys (omega arith)))
 
-other : (k i : ℕ) (f : Cube) → i < length f → (i ≡ k → ⊥) → drop i (set f k 1) ≡ get_or f i 0 ∷ drop (i + 1) (set f k 1)
-other k i f h n =
-    let l : i < length (set f k 1) = rw length-set h in
-    drop_more (set f k 1) i 0 l ∙ ap (λ v. v ∷ drop (i + 1) (set f k 1)) (get_or-set_other f k i 1 0 n)
+  upon : (m k : ℕ) (xs ys : List X) → list_all (passes s (m + k)) (enumerate_from m (zip xs ys)) ≡ beside k (map s xs) (map s ys)
+  upon m k [] ys = refl
+  upon m zero (x ∷ xs) [] = refl
+  upon m (suc k) (x ∷ xs) [] = refl
+  upon m zero (x ∷ xs) (y ∷ ys) =
+      let n : eqb m (m + 0) ≡ true = grind (arith, nat_tests) in
+      rw n (past (m + 1) (m + 0) xs ys (omega arith))
+  upon m (suc k) (x ∷ xs) (y ∷ ys) =
+      let n : eqb m (m + suc k) ≡ false = grind (arith, nat_tests) in
+      let l : m + suc k ≡ m + 1 + k = omega arith in
+      rw n (ap (λ b. some (bit_and (s x) (s y)) && b) (ap (λ j. list_all (passes s j) (enumerate_from (m + 1) (zip xs ys))) l ∙ upon (m + 1) k xs ys))
 
--- another part is looked at
-pub beside-step : (k i : ℕ) (f r : Cube) → i < length f → i < length r → (i ≡ k → ⊥)
-    → meets (drop i (set f k 1)) (drop i (set r k 1)) ≡ (some (bit_and (get_or f i 0) (get_or r i 0)) && meets (drop (i + 1) (set f k 1)) (drop (i + 1) (set r k 1)))
-beside-step k i f r h l n = rw (other k i f h n, other k i r l n)
-
-pub beside_end : (k i : ℕ) (f r : Cube) → length f ≤ i → meets (drop i (set f k 1)) (drop i (set r k 1)) ≡ true
-beside_end k i f r h = let e : length (set f k 1) ≤ i = rw length-set h in rw (drop_all i (set f k 1) e)
+  pub beside_all : (k : ℕ) (xs ys : List X) → beside k (map s xs) (map s ys) ≡ list_all (passes s k) (enumerate_from 0 (zip xs ys))
+  beside_all k xs ys = let z : 0 + k ≡ k = omega arith in sym (rw z at (upon 0 k xs ys))

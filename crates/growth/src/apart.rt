@@ -3,7 +3,8 @@ ghost use Rattle.std.specs.Prelude.{◌≡◌, map, length};
 ghost use Rattle.moves.specs.Widen.{beside};
 ghost use Rattle.growth.specs.Missed.{only_missed, Once};
 
-use parts::Part;
+use cubes::cube::meets;
+use parts::{Part, shares_value};
 
 /// The part in which the cubes share no value, where there is exactly one such part.
 pub fn blocking_part<P: Part>(f: &[P], r: &[P]) -> Option<usize>
@@ -11,18 +12,8 @@ pub fn blocking_part<P: Part>(f: &[P], r: &[P]) -> Option<usize>
     ensures value { result ≡ only_missed 0 (map P.set f.now) (map P.set r.now) }
     ensures once { Once (map P.set f.now) (map P.set r.now) result }
 {
-    let mut found = None;
-    for k in 0..f.len() {
-        let x = f[k];
-        let y = r[k];
-        if x.common(y).is_empty() {
-            if let Some(_) = found {
-                return None;
-            }
-            found = Some(k);
-        }
-    }
-    found
+    let k = f.iter().zip(r).position(|(x, y)| !shares_value(*x, *y))?;
+    meets(&f[k + 1..], &r[k + 1..]).then_some(k)
 }
 
 /// Whether the cubes share a value in each part but `k`.
@@ -30,14 +21,8 @@ pub fn meets_beside<P: Part>(f: &[P], r: &[P], k: usize) -> bool
     requires { length f.now ≡ length r.now }
     ensures { result ≡ beside k (map P.set f.now) (map P.set r.now) }
 {
-    for i in 0..f.len() {
-        if i != k {
-            let x = f[i];
-            let y = r[i];
-            if x.common(y).is_empty() {
-                return false;
-            }
-        }
-    }
-    true
+    f.iter()
+        .zip(r)
+        .enumerate()
+        .all(|(i, (x, y))| i == k || shares_value(*x, *y))
 }

@@ -16,9 +16,6 @@ best-found free before (suc n) = by (free n) refl (best free before n) (best-fou
     by false e None h = λ k l. ⊎_elim (λ q. ap free q ∙ e) (λ q. h k (omega arith)) (cases_eq k n)
     by false e (Some b) h = (omega arith, h.1)
 
-pub best-below : (free : ℕ → Bool) (before : ℕ → ℕ → Bool) (n b : ℕ) → best free before n ≡ Some b → b < n
-best-below free before n b e = (subst (Found free n) e (best-found free before n)).0
-
 -- ---- what comes before the one found, it comes before as well; for this before need only carry over
 
 abbrev Level : (ℕ → Bool) → (ℕ → ℕ → Bool) → ℕ → Option ℕ → Type 0

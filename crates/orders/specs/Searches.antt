@@ -4,8 +4,6 @@ use Rattle.table.specs.declared.card.Card.{Card}
 use Rattle.table.specs.Cards.{blank}
 use Rattle.orders.specs.Rules.{Rule, light_rule}
 use Rattle.orders.specs.Bests.{best, IsFirst}
-use Rattle.orders.specs.declared.search.Sought.{Sought}
-use Rattle.orders.specs.declared.search.Sought.TheVariants.{Waiting, Untried}
 
 -- the first card comes before the second
 abbrev pub precedes : Rule → Card → Card → Bool
@@ -18,11 +16,6 @@ waits c = not c.taken
 -- neither taken nor tried
 abbrev pub untried : Card → Bool
 untried c = not c.taken && not c.tried
-
--- what a search looks at
-abbrev pub sought_by : Sought → Card → Bool
-sought_by Waiting c = waits c
-sought_by Untried c = untried c
 
 -- where the first card stands of the first n that pass the test
 abbrev pub first_of : (Card → Bool) → Rule → List Card → ℕ → Option ℕ

@@ -1,11 +1,18 @@
 //! Orders of cubes. From the weight and the starting place of two cubes alone an order says whether the first comes before the second.
 #![tactic(auto)]
 
-ghost use Rattle.std.specs.Prelude.{◌≡◌};
+ghost use Rattle.std.specs.Prelude.{◌≡◌, Some, None, MatchResult};
 ghost use Rattle.orders.specs.Rules.{Rule, Ordered, place_rule, light_rule, reversed, directed, either_rule, chosen_rule, order_of};
 ghost use Rattle.std.proofs.Common.{rules};
 
 pub mod search;
+
+/// What an order reads of a cube: its weight, and the place at which it started.
+#[derive(Clone, Copy)]
+pub struct Rank {
+    pub weight: usize,
+    pub place: usize,
+}
 
 /// An order of cubes: of two with different places exactly one comes before the other, and before carries over from pair to pair.
 /// Nothing is said of cubes with one place.
@@ -13,9 +20,9 @@ pub trait Order {
     /// Weight and place of the first, weight and place of the second: the first comes before the second.
     ghost before: { Self → Rule };
 
-    /// Whether a cube of weight `w` and place `p` comes before one of weight `v` and place `q`.
-    fn comes_before(&self, w: usize, p: usize, v: usize, q: usize) -> bool
-        ensures { result ≡ before self.now w p v q };
+    /// Whether a cube of rank `a` comes before one of rank `b`.
+    fn comes_before(&self, a: Rank, b: Rank) -> bool
+        ensures { result ≡ before self.now a.weight a.place b.weight b.place };
 
     ghost ordered: { (o : Self) → Ordered (before o) };
 }
@@ -29,8 +36,8 @@ impl Order for Place {
 
     ghost ordered = { Prim.search rules };
 
-    fn comes_before(&self, _w: usize, p: usize, _v: usize, q: usize) -> bool {
-        p < q
+    fn comes_before(&self, a: Rank, b: Rank) -> bool {
+        a.place < b.place
     }
 }
 
@@ -43,8 +50,8 @@ impl Order for Light {
 
     ghost ordered = { Prim.search rules };
 
-    fn comes_before(&self, w: usize, p: usize, v: usize, q: usize) -> bool {
-        w < v || w == v && p < q
+    fn comes_before(&self, a: Rank, b: Rank) -> bool {
+        a.weight < b.weight || a.weight == b.weight && a.place < b.place
     }
 }
 
@@ -57,8 +64,19 @@ impl<O: Order> Order for Reverse<O> {
 
     ghost ordered = { Prim.search rules };
 
-    fn comes_before(&self, w: usize, p: usize, v: usize, q: usize) -> bool {
-        self.0.comes_before(v, q, w, p)
+    fn comes_before(&self, a: Rank, b: Rank) -> bool {
+        self.0.comes_before(b, a)
+    }
+}
+
+// An order that is lent is the same order.
+impl<O: Order> Order for &O {
+    ghost before = { λ o. O.before o.now };
+
+    ghost ordered = { Prim.search rules };
+
+    fn comes_before(&self, a: Rank, b: Rank) -> bool {
+        (**self).comes_before(a, b)
     }
 }
 
@@ -74,15 +92,16 @@ impl<A: Order, B: Order> Order for Either<A, B> {
 
     ghost ordered = { Prim.search rules };
 
-    fn comes_before(&self, w: usize, p: usize, v: usize, q: usize) -> bool {
+    fn comes_before(&self, a: Rank, b: Rank) -> bool {
         match self {
-            Either::Left(a) => a.comes_before(w, p, v, q),
-            Either::Right(b) => b.comes_before(w, p, v, q),
+            Either::Left(left) => left.comes_before(a, b),
+            Either::Right(right) => right.comes_before(a, b),
         }
     }
 }
 
 /// How an order that is lent is taken: as it is, or turned round.
+// Beside `Reverse`, which is another type: here one type of order is taken both ways, as the program runs.
 #[derive(Clone, Copy)]
 pub enum Direction {
     Along,
@@ -91,12 +110,12 @@ pub enum Direction {
 
 impl Direction {
     /// Whether the first cube comes before the second under the order taken so.
-    pub fn comes_before<O: Order>(self, order: &O, w: usize, p: usize, v: usize, q: usize) -> bool
-        ensures { result ≡ directed self (O.before order.now) w p v q }
+    pub fn comes_before<O: Order>(self, order: &O, a: Rank, b: Rank) -> bool
+        ensures { result ≡ directed self (O.before order.now) a.weight a.place b.weight b.place }
     {
         match self {
-            Direction::Along => order.comes_before(w, p, v, q),
-            Direction::Against => order.comes_before(v, q, w, p),
+            Direction::Along => order.comes_before(a, b),
+            Direction::Against => Reverse(order).comes_before(a, b),
         }
     }
 }
@@ -115,12 +134,32 @@ impl Order for Chosen {
 
     ghost ordered = { Prim.search rules };
 
-    fn comes_before(&self, w: usize, p: usize, v: usize, q: usize) -> bool {
+    fn comes_before(&self, a: Rank, b: Rank) -> bool {
         match self {
-            Chosen::Place => Place.comes_before(w, p, v, q),
-            Chosen::PlaceReversed => Reverse(Place).comes_before(w, p, v, q),
-            Chosen::Light => Light.comes_before(w, p, v, q),
-            Chosen::LightReversed => Reverse(Light).comes_before(w, p, v, q),
+            Chosen::Place => Place.comes_before(a, b),
+            Chosen::PlaceReversed => Reverse(Place).comes_before(a, b),
+            Chosen::Light => Light.comes_before(a, b),
+            Chosen::LightReversed => Reverse(Light).comes_before(a, b),
+        }
+    }
+}
+
+/// A byte that names no order.
+#[derive(Clone, Copy)]
+pub struct NoOrder;
+
+impl TryFrom<u8> for Chosen {
+    type Error = NoOrder;
+
+    ghost try_from_gives = { λ b r. MatchResult r (λ o. order_of b ≡ Some o) (λ _. order_of b ≡ None) };
+
+    fn try_from(byte: u8) -> Result<Chosen, NoOrder> {
+        match byte {
+            0 => Ok(Chosen::Place),
+            1 => Ok(Chosen::PlaceReversed),
+            2 => Ok(Chosen::Light),
+            3 => Ok(Chosen::LightReversed),
+            _ => Err(NoOrder),
         }
     }
 }
@@ -129,11 +168,5 @@ impl Order for Chosen {
 pub fn order_of(byte: u8) -> Option<Chosen>
     ensures { result ≡ order_of byte }
 {
-    match byte {
-        0 => Some(Chosen::Place),
-        1 => Some(Chosen::PlaceReversed),
-        2 => Some(Chosen::Light),
-        3 => Some(Chosen::LightReversed),
-        _ => None,
-    }
+    Chosen::try_from(byte).ok()
 }

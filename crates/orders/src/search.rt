@@ -1,50 +1,41 @@
 //! Searches: the first card under an order, and the lightest part.
-ghost use Rattle.std.specs.Prelude.{◌≡◌, ◌≤◌, length, slice_index};
+ghost use Rattle.std.specs.Prelude.{◌≡◌, ◌<◌, Bool, length, slice_index};
+ghost use Rattle.std.specs.Fn.{FnReturnsAt};
+ghost use Rattle.table.specs.declared.card.Card.{Card};
 ghost use Rattle.orders.specs.Rules.{directed};
-ghost use Rattle.orders.specs.Searches.{waits, untried, sought_by, first_of, IsFirstOf, lightest, IsLightest};
+ghost use Rattle.orders.specs.Searches.{waits, untried, first_of, IsFirstOf, lightest, IsLightest};
 
-use crate::{Direction, Light, Order};
+use crate::{Direction, Light, Order, Rank};
 use table::card::Card;
 
-// Which cards a search looks at: those not taken, or those neither taken nor tried.
-#[derive(Clone, Copy)]
-enum Sought {
-    Waiting,
-    Untried,
-}
-
-impl Sought {
-    fn looks_at(self, card: Card) -> bool
-        ensures { result ≡ sought_by self card }
-    {
-        match self {
-            Sought::Waiting => !card.taken,
-            Sought::Untried => !card.taken && !card.tried,
-        }
+// What an order reads of a card.
+fn rank_of(card: &Card) -> Rank
+    ensures weight { result.weight ≡ card.now.weight }
+    ensures place { result.place ≡ card.now.place }
+{
+    Rank {
+        weight: card.weight,
+        place: card.place,
     }
 }
 
-// The first of the first `n` cards that are looked at: the best so far against the next.
-fn first_sought<O: Order>(
+// Where the first card stands that passes the test, for any test that the closure computes: the best so far against the next.
+fn first_where<O: Order, F: Fn(&Card) -> bool>(
     order: &O,
     along: Direction,
-    sought: Sought,
     cards: &[Card],
-    n: usize,
+    test: F,
 ) -> Option<usize>
-    requires { n ≤ length cards.now }
-    ensures value { result ≡ first_of (sought_by sought) (directed along (O.before order.now)) cards.now n }
-    ensures first { IsFirstOf (sought_by sought) (directed along (O.before order.now)) cards.now n result }
+    requires { F.IsAlwaysCallable test }
+    ensures { (passes : Card → Bool) → ((c : Card) (b : Bool) → FnReturnsAt F.Fn test c b → b ≡ passes c) → result ≡ first_of passes (directed along (O.before order.now)) cards.now (length cards.now) }
 {
     let mut found = None;
-    for i in 0..n {
-        let c = cards[i];
-        if sought.looks_at(c) {
+    for (i, card) in cards.iter().enumerate() {
+        if test(card) {
             found = match found {
                 None => Some(i),
                 Some(b) => {
-                    let d = cards[b];
-                    if along.comes_before(order, c.weight, c.place, d.weight, d.place) {
+                    if along.comes_before(order, rank_of(card), rank_of(&cards[b])) {
                         Some(i)
                     } else {
                         Some(b)
@@ -56,48 +47,49 @@ fn first_sought<O: Order>(
     found
 }
 
-/// Where the first of the first `n` cards stands that are not taken.
-pub fn first_waiting<O: Order>(
-    order: &O,
-    along: Direction,
-    cards: &[Card],
-    n: usize,
-) -> Option<usize>
-    requires { n ≤ length cards.now }
-    ensures value { result ≡ first_of waits (directed along (O.before order.now)) cards.now n }
-    ensures first { IsFirstOf waits (directed along (O.before order.now)) cards.now n result }
+/// Where the first of the cards stands that are not taken.
+pub fn first_waiting<O: Order>(order: &O, along: Direction, cards: &[Card]) -> Option<usize>
+    ensures value { result ≡ first_of waits (directed along (O.before order.now)) cards.now (length cards.now) }
+    ensures first { IsFirstOf waits (directed along (O.before order.now)) cards.now (length cards.now) result }
 {
-    first_sought(order, along, Sought::Waiting, cards, n)
+    first_where(order, along, cards, |card| !card.taken)
 }
 
-/// Where the first of the first `n` cards stands that are neither taken nor tried.
-pub fn first_untried<O: Order>(
-    order: &O,
-    along: Direction,
-    cards: &[Card],
-    n: usize,
-) -> Option<usize>
-    requires { n ≤ length cards.now }
-    ensures value { result ≡ first_of untried (directed along (O.before order.now)) cards.now n }
-    ensures first { IsFirstOf untried (directed along (O.before order.now)) cards.now n result }
+/// Where the first of the cards stands that are neither taken nor tried.
+pub fn first_untried<O: Order>(order: &O, along: Direction, cards: &[Card]) -> Option<usize>
+    ensures value { result ≡ first_of untried (directed along (O.before order.now)) cards.now (length cards.now) }
+    ensures first { IsFirstOf untried (directed along (O.before order.now)) cards.now (length cards.now) result }
 {
-    first_sought(order, along, Sought::Untried, cards, n)
+    first_where(order, along, cards, |card| !card.taken && !card.tried)
 }
 
-/// The lightest of the first `p` parts that are not taken, the lower number first.
-pub fn lightest_part(weights: [usize; 16], taken: [bool; 16], p: usize) -> Option<usize>
-    requires { p ≤ 16 }
-    ensures value { result ≡ lightest p (λ k. slice_index weights k) taken }
-    ensures first { IsLightest p (λ k. slice_index weights k) taken result }
+// What the order reads of a part: its weight and its number.
+fn rank_of_part(weights: &[usize], k: usize) -> Rank
+    requires { k < length weights.now }
+    ensures weight { result.weight ≡ slice_index weights.now k }
+    ensures place { result.place ≡ k }
+{
+    Rank {
+        weight: weights[k],
+        place: k,
+    }
+}
+
+/// The lightest of the parts that are not taken, the lower number first.
+// Not `first_where`: the weights and the marks lie in two lists, and there is no list of what it looks at.
+pub fn lightest_part(weights: &[usize], taken: &[bool]) -> Option<usize>
+    requires { length weights.now ≡ length taken.now }
+    ensures value { result ≡ lightest (length taken.now) (λ k. slice_index weights.now k) taken.now }
+    ensures first { IsLightest (length taken.now) (λ k. slice_index weights.now k) taken.now result }
 {
     let mut found = None;
-    for i in 0..p {
-        if !taken[i] {
+    for (k, taken) in taken.iter().enumerate() {
+        if !*taken {
             found = match found {
-                None => Some(i),
+                None => Some(k),
                 Some(b) => {
-                    if Light.comes_before(weights[i], i, weights[b], b) {
-                        Some(i)
+                    if Light.comes_before(rank_of_part(weights, k), rank_of_part(weights, b)) {
+                        Some(k)
                     } else {
                         Some(b)
                     }

@@ -1,107 +1,115 @@
-use Rattle.std.proofs.Common.{◌≡◌, ℕ, ◌+◌, ◌*◌, ◌<◌, ◌≤◌, true, map, length, get_or, take, drop, set, Some, None, sym, refl, ap, ◌∙◌, subst, arith}
-use Rattle.std.proofs.lemmas.List.{length-map}
-use Rattle.cubes.specs.Areas.{cube_at, cubes, put_at}
-use Rattle.cubes.proofs.Areas.{place_below, length-cube_at, map-cube_at}
+use Rattle.std.proofs.Common.{◌≡◌, ℕ, ◌+◌, ◌-◌, ◌*◌, ◌<◌, ◌≤◌, false, true, not, map, length, get_or, take, drop, set, replicate, Some, None, sym, refl, ap, ap₂, ◌∙◌, subst, arith}
+use borrow.Rule.Slice.PartMut.{put_mid}
+use Rattle.std.proofs.lemmas.List.{length-map, length-take, length-drop, get_or-take, take-replicate}
+use Rattle.std.proofs.lemmas.Slice.{take-put_mid_below, drop-put_mid}
+use Rattle.parts.specs.Models.{word_set}
+use Rattle.cubes.specs.Areas.{cube_at, cubes}
+use Rattle.cubes.specs.Lists.{sets_of}
+use Rattle.cubes.proofs.Areas.{place_below, length-cube_at, map-cube_at, put_part}
 use Rattle.moves.specs.Widen.{touches, widened}
-use Rattle.moves.specs.Expand.{part_weight, over}
+use Rattle.moves.specs.Expand.{part_weight, over, grown, growing}
+use Rattle.orders.specs.Bests.{Found}
 use Rattle.orders.specs.Searches.{lightest}
+use Rattle.orders.proofs.Cards.{lightest_alike}
 use Rattle.growth.specs.Others.{others}
-use Rattle.growth.proofs.Grown.{Grows, lightest-same, grows_none, grows_skip, grows_some, grows_all}
+use Rattle.growth.proofs.Grown.{count-set, growing_on, grows-start, grows-one, grows-end, grown-all}
 use Rattle.growth.proofs.grow.grow.Goals as goal
-use Rattle.growth.proofs.grow.grow.Goals.{in-Some, in_default}
 
-pub cube_at-requires : goal.cube_at-requires
-cube_at-requires g c = omega (arith, place_below c.args.at c.args.n c.args.p c.requires.place, c.requires.room)
-
-pub over_expanded-words-requires : goal.over_expanded-words-requires
-over_expanded-words-requires g c =
+pub over_expanded-requires-clause-apart : goal.over_expanded-requires-clause-apart
+over_expanded-requires-clause-apart g c =
     let s = g.P.Part.set in
-    let p = c.args.p in
-    let at = c.args.at in
-    let S = c.args.solution.now in
-    let fits : at * p + p ≤ length S = omega (arith, place_below at c.args.n p c.requires.place, c.requires.room) in
-    record {
-      few = c.requires.few;
-      size = ap length c.cube_at.ensures ∙ length-cube_at p at S fits;
-      whole = c.requires.whole;
-      fits = c.requires.fits;
-      apart = ap (λ f. touches f (cubes p c.args.offs (map s c.args.off.now))) (ap (map s) c.cube_at.ensures ∙ map-cube_at s p at S) ∙ c.requires.apart;
-    }
+    let cu = c.new-cubes.result in
+    let f : map s c.cube.result.now ≡ cube_at c.args.off.now.p c.args.at (map s c.args.solution.now) =
+    let fe : cube_at cu.p c.args.at (map s cu.parts.now) ≡ cube_at c.args.off.now.p c.args.at (map s c.args.solution.now) = cc in
+    ap (map s) c.cube.ensures ∙ map-cube_at s cu.p c.args.at cu.parts.now ∙ fe in
+    ap (λ F. touches F (sets_of s c.args.off.now)) f ∙ c.requires.apart
 
-pub loop-i-init : goal.loop-i-init
-loop-i-init g c =
+pub loop-k-init : goal.loop-k-init
+loop-k-init g c =
     let s = g.P.Part.set in
-    let p = c.args.p in
+    let p = c.args.off.now.p in
     let at = c.args.at in
-    let E = map s c.args.solution.now in
-    let f = cube_at p at E in
-    let U = take p (map s c.args.universe.now) in
-    let R = cubes p c.args.offs (map s c.args.off.now) in
-    (grows_none p at U R (part_weight (over U f R) f (others at (cubes p c.args.n E))) E c.requires.few, refl, refl)
-
-pub widen-requires : goal.widen-requires
-widen-requires g c = record {
-  part = c.in-Some.ensures.first.found.0;
-  whole = c.requires.whole;
-  fits = c.requires.fits;
-  room = omega (arith, place_below c.args.at c.args.n c.args.p c.requires.place, c.requires.room, c.loop-i.auto.solution);
-}
-
-pub loop-i-preserved : goal.loop-i-preserved
-loop-i-preserved g c =
-    let s = g.P.Part.set in
-    let p = c.args.p in
-    let at = c.args.at in
-    let i = c.loop-i._i in
     let S = c.args.solution.now in
     let E = map s S in
-    let X = map s c.loop-i.solution in
-    let f = cube_at p at E in
+    let F = cube_at p at E in
     let U = take p (map s c.args.universe.now) in
-    let R = cubes p c.args.offs (map s c.args.off.now) in
+    let R = sets_of s c.args.off.now in
     let C = others at (cubes p c.args.n E) in
-    let w : ℕ → ℕ = part_weight (over U f R) f C in
-    let le : at * p + p ≤ length S = omega (arith, place_below at c.args.n p c.requires.place, c.requires.room) in
-    let lx' : at * p + p ≤ length c.loop-i.solution = omega (arith, c.loop-i.auto.solution) in
-    let lE : at * p + p ≤ length E = rw length-map le in
-    let lX : at * p + p ≤ length X = rw length-map lx' in
-    let ov : take p c.over_expanded-words.result ≡ over U f R = c.over_expanded-words.ensures ∙ ap (λ F. over U F R) (ap (map s) c.cube_at.ensures ∙ map-cube_at s p at S) in
-    let agree : (k : ℕ) → k < p → get_or c.part_weights-weights.result k 0 ≡ w k = λ k h. c.part_weights-weights.ensures k h ∙ ap (λ o. part_weight o f C k) ov in
-    let same = lightest-same p w (λ k. get_or c.part_weights-weights.result k 0) c.loop-i.taken agree in
-    elim c.match-lightest_part.branch [
-      | in-Some v ↦
-          let k = v.in-Some.k in
-          let o : lightest p w (take p c.loop-i.taken) ≡ Some k = sym same ∙ sym v.in-Some.ensures.value in
-          let y : map s c.match-lightest_part.solution ≡ put_at p at (widened k (get_or U k 0) (cube_at p at X) R) X = ap (map s) v.solution-is ∙ v.widen.ensures.sets in
-          let t : c.match-lightest_part.taken ≡ set c.loop-i.taken k true = v.taken-is in (
-            rw t (grows_some p at U R w E i k c.loop-i.taken X (map s c.match-lightest_part.solution) c.loop-i-test.true lE lX o y c.loop-i.invariant.0),
-            ap (take (at * p)) v.solution-is ∙ v.widen.ensures.before ∙ c.loop-i.invariant.1,
-            ap (drop (at * p + p)) v.solution-is ∙ v.widen.ensures.behind ∙ c.loop-i.invariant.2,
-          )
-      | in_default v ↦
-          let o : lightest p w (take p c.loop-i.taken) ≡ None = sym same ∙ sym v.in_default.ensures.value in
-          rw (v.solution-is, v.taken-is)
-          (grows_skip p at U R w E i c.loop-i.taken X c.loop-i-test.true o c.loop-i.invariant.0, c.loop-i.invariant.1, c.loop-i.invariant.2)
-    ]
+    let w = part_weight (over U F R) F C in
+    let n = c.width-p.result in
+    let none : take n (replicate 16 false) ≡ replicate p false = ap (λ i. take i (replicate 16 false)) c.width-p.ensures ∙ take-replicate p 16 false c.requires.few in
+    let size : at * n + n - at * n ≡ p = omega (arith, c.width-p.ensures) in
+    let f : map s (take (at * n + n - at * n) (drop (at * n) S)) ≡ F =
+    ap₂ (λ (m i : ℕ). map s (take m (drop (at * i) S))) size c.width-p.ensures ∙ map-cube_at s p at S in
+    grows-start p w U R (take n (replicate 16 false)) _ none ∙ ap (λ d. growing p p w U R (replicate p false, d)) f
+
+pub loop-k-preserved : goal.loop-k-preserved
+loop-k-preserved g c =
+    let s = g.P.Part.set in
+    let p = c.args.off.now.p in
+    let at = c.args.at in
+    let S = c.args.solution.now in
+    let E = map s S in
+    let F = cube_at p at E in
+    let U = take p (map s c.args.universe.now) in
+    let R = sets_of s c.args.off.now in
+    let C = others at (cubes p c.args.n E) in
+    let w = part_weight (over U F R) F C in
+    let k = c.in-Some.k in
+    let cu = c.new-cubes.result in
+    let t = c.loop-k.taken in
+    let ws = c.part_weights.new.weights in
+    let pe : cu.p ≡ p = cc in
+    let fe : cube_at cu.p at (map s cu.parts.now) ≡ F = cc in
+    let ce : others at (sets_of s cu) ≡ C = cc in
+    let ov : map word_set c.over_expanded.new.over ≡ over U F R =
+    c.over_expanded.ensures ∙ ap (λ A. over U A R) (ap (map s) c.cube.ensures ∙ map-cube_at s cu.p at cu.parts.now ∙ fe) in
+    let agree : (i : ℕ) → i < p → get_or ws i 0 ≡ w i = λ i h.
+    let l : i < cu.p = omega (arith, pe) in
+    c.part_weights.ensures i l ∙ ap (λ o. part_weight o (cube_at cu.p at (map s cu.parts.now)) (others at (sets_of s cu)) i) ov
+    ∙ ap₂ (λ A D. part_weight (over U F R) A D i) fe ce in
+    let size : length t ≡ p = c.loop-k.auto.taken ∙ simp length-take (omega (arith, c.width-p.ensures, c.requires.few)) in
+    let marked = subst (Found (λ i. not (get_or c.loop-k.taken i false)) (length c.loop-k.taken)) c.in-Some.is c.lightest_part.ensures.first.found in
+    let free : get_or c.loop-k.taken k false ≡ false = grind (arith, marked.1) in
+    let o : lightest p w t ≡ Some k =
+    sym (lightest_alike p (λ i. get_or ws i 0) w t t agree (λ i h. refl)) ∙ ap (λ n. lightest n (λ i. get_or ws i 0) t) (sym size) ∙ sym c.lightest_part.ensures.value ∙ c.in-Some.is in
+    let below : k < p = omega (arith, marked.0) in
+    let y : map s c.widen.new.f ≡ widened k (get_or U k 0) (map s c.loop-k.f) R =
+    c.widen.ensures ∙ ap (λ u. widened k u (map s c.loop-k.f) R) (sym (get_or-take p (map s c.args.universe.now) k 0 below)) in
+    ap (growing_on p w U R (set t k true)) y ∙ grows-one p w U R t (map s c.loop-k.f) k o marked.0 free ∙ c.loop-k.invariant
+
+pub loop-k-smaller : goal.loop-k-smaller
+loop-k-smaller g c =
+    let k = c.in-Some.k in
+    let marked = subst (Found (λ i. not (get_or c.loop-k.taken i false)) (length c.loop-k.taken)) c.in-Some.is c.lightest_part.ensures.first.found in
+    let free : get_or c.loop-k.taken k false ≡ false = grind (arith, marked.1) in
+    omega (arith, count-set c.loop-k.taken k marked.0 free)
 
 pub returns : goal.returns
 returns g c =
     let s = g.P.Part.set in
-    let p = c.args.p in
+    let p = c.args.off.now.p in
     let at = c.args.at in
     let S = c.args.solution.now in
     let E = map s S in
-    let f = cube_at p at E in
+    let F = cube_at p at E in
     let U = take p (map s c.args.universe.now) in
-    let R = cubes p c.args.offs (map s c.args.off.now) in
+    let R = sets_of s c.args.off.now in
     let C = others at (cubes p c.args.n E) in
+    let w = part_weight (over U F R) F C in
+    let n = c.width-p.result in
+    let t = c.loop-k.taken in
+    let f = c.loop-k.f in
     let le : at * p + p ≤ length S = omega (arith, place_below at c.args.n p c.requires.place, c.requires.room) in
     let lE : at * p + p ≤ length E = rw length-map le in
-    let e : c.loop-i._i ≡ p = omega arith in
-    let all : Grows p at U R (part_weight (over U f R) f C) E p c.loop-i.taken (map s c.loop-i.solution) =
-    subst (λ i. Grows p at U R (part_weight (over U f R) f C) E i c.loop-i.taken (map s c.loop-i.solution)) e c.loop-i.invariant.0 in
+    let none : c.lightest_part.result ≡ None = c.in_default.is in
+    let all = subst (Found (λ i. not (get_or t i false)) (length t)) none c.lightest_part.ensures.first.found in
+    let e : (t, map s f) ≡ growing p p w U R (replicate p false, F) = sym (grows-end p w U R t (map s f) all) ∙ c.loop-k.invariant in
+    let grew : map s f ≡ grown U R F C = grown-all p U F R C (t, map s f) (length-cube_at p at E lE) e in
+    let size : at * n + n - at * n ≡ p = omega (arith, c.width-p.ensures) in
+    let q : at * n ≡ at * p = ap (λ i. at * i) c.width-p.ensures in
     record {
-      sets = grows_all p at U R C E c.loop-i.taken (map s c.loop-i.solution) lE all;
-      before = c.loop-i.invariant.1;
-      behind = c.loop-i.invariant.2;
+      sets = ap (λ i. map s (put_mid (at * i) (at * n + n - at * n) S f)) c.width-p.ensures ∙ put_part s p at (at * n + n - at * n) S f (λ _. grown U R F C) size grew;
+      before = take-put_mid_below (at * n) (at * n + n - at * n) S f (at * p) (omega (arith, q)) (omega (arith, q, le));
+      behind = drop-put_mid (at * n) (at * n + n - at * n) S f (at * p + p) (omega (arith, q, c.width-p.ensures)) (omega (arith, q, le)) (c.loop-k.auto.f ∙ simp (length-take, length-drop) (omega (arith, q, le, c.width-p.ensures)));
     }

@@ -1,9 +1,7 @@
 use Rattle.std.proofs.Common.{◌≡◌, map}
-use Rattle.cubes.specs.Areas.{cubes}
 use Rattle.moves.specs.Widen.{blocked}
+use Rattle.growth.proofs.Lists.{sets_read}
 use Rattle.growth.proofs.widen.blocked_values.Given as goal
 
-abbrev pub invariant-loop-j : goal.invariant-loop-j
-invariant-loop-j g l =
-    let s = g.P.Part.set in
-    s l.values ≡ blocked l.k (map s l.f) (cubes l.p l.j (map s l.off))
+abbrev pub invariant-loop-r : goal.invariant-loop-r
+invariant-loop-r g l = let s = g.P.Part.set in s l.values ≡ blocked l.k (map s l.f) (sets_read s l.yielded)

@@ -1,35 +1,12 @@
-use Rattle.std.proofs.Common.{◌≡◌, ℕ, ◌<◌, false, not, get_or, sym, ap, ◌∙◌, subst, add-one, arith, rules}
-use Rattle.orders.specs.Rules.{light_rule}
-use Rattle.orders.specs.Bests.{against}
+use Rattle.std.proofs.Common.{◌≡◌, ℕ, length, get_or, sym, ap, ◌∙◌, subst, arith}
 use Rattle.orders.specs.Searches.{lightest, IsLightest}
-use Rattle.orders.proofs.Bests.{best-below}
 use Rattle.orders.proofs.Cards.{lightest_first}
 use Rattle.orders.proofs.search.lightest_part.Goals as goal
-use Rattle.orders.proofs.search.lightest_part.Goals.{then-not-taken-i+in-None, then-not-taken-i+in-Some+then-comes_before, then-not-taken-i+in-Some+else-comes_before, else-not-taken-i}
 
-pub bounds-weights-b : goal.bounds-weights-b
-bounds-weights-b c = omega (arith, best-below _ _ c.loop-i.i c.in-Some.b (sym c.loop-i.invariant ∙ c.in-Some.is))
-
-pub offset_bounds-weights-b : goal.offset_bounds-weights-b
-offset_bounds-weights-b c = let h : c.in-Some.b < 16 = bounds-weights-b c in search rules
-
-pub loop-i-preserved : goal.loop-i-preserved
-loop-i-preserved c =
-    let i = c.loop-i.i in
-    let w : ℕ → ℕ = λ k. get_or c.args.weights k 0 in
-    let next = against (not (get_or c.args.taken i false)) (λ i j. light_rule (w i) i (w j) j) i in
-    let e : c.if-not-taken-i.found ≡ next c.loop-i.found = elim c.if-not-taken-i.branch [
-      | then-not-taken-i+in-None w ↦ search rules
-      | then-not-taken-i+in-Some+then-comes_before w ↦ search rules
-      | then-not-taken-i+in-Some+else-comes_before w ↦ search rules
-      | else-not-taken-i w ↦ search rules
-    ] in
-    rw add-one (e ∙ ap next c.loop-i.invariant)
-
-pub returns : goal.returns
-returns c =
-    let w : ℕ → ℕ = λ k. get_or c.args.weights k 0 in
-    let t = c.args.taken in
-    let all : c.loop-i.i ≡ c.args.p = omega arith in
-    let value : c.loop-i.found ≡ lightest c.args.p w t = c.loop-i.invariant ∙ ap (λ p. lightest p w t) all in
-    record { value = value; first = subst (IsLightest c.args.p w t) (sym value) (lightest_first c.args.p w t) }
+pub returns-clause-first : goal.returns-clause-first
+returns-clause-first c =
+    let w : ℕ → ℕ = λ k. get_or c.args.weights.now k 0 in
+    let t = c.args.taken.now in
+    let all : c.loop-k.k ≡ length t = omega arith in
+    let value : c.loop-k.found ≡ lightest (length t) w t = c.loop-k.invariant.1 ∙ ap (λ n. lightest n w t) all in
+    subst (IsLightest (length t) w t) (sym value) (lightest_first (length t) w t)

@@ -1,6 +1,6 @@
-use Rattle.std.proofs.Common.{◌≡◌, get_or}
+use Rattle.std.proofs.Common.{◌≡◌, ℕ, ◌<◌, get_or, Some}
 use Rattle.orders.specs.Searches.{lightest}
 use Rattle.orders.proofs.search.lightest_part.Given as goal
 
-abbrev pub invariant-loop-i : goal.invariant-loop-i
-invariant-loop-i l = l.found ≡ lightest l.i (λ k. get_or l.weights k 0) l.taken
+abbrev pub invariant-loop-k : goal.invariant-loop-k
+invariant-loop-k l = ((b : ℕ) → l.found ≡ Some b → b < l.k) × (l.found ≡ lightest l.k (λ k. get_or l.weights k 0) l.fn.taken)
