@@ -18,7 +18,7 @@ use Rattle.tending.specs.Items.{items_of}
 use Rattle.tending.proofs.Places.{length_items, get_or-items, items_front}
 
 -- the first card not yet taken is that of the first item
-first_card : (p n : ℕ) (S : List ℕ) (C : List Card) (B : Rule) → cards.first_of cards.waits B C n ≡ items.first_of items.waits B (items_of p n S C)
+pub first_card : (p n : ℕ) (S : List ℕ) (C : List Card) (B : Rule) → cards.first_of cards.waits B C n ≡ items.first_of items.waits B (items_of p n S C)
 first_card p n S C B =
     let L = items_of p n S C in
     let l : length L ≡ n = length_items p n S C in
@@ -27,10 +27,6 @@ first_card p n S C B =
     (λ i j. cards.precedes B (get_or C i blank) (get_or C j blank)) (λ i j. items.precedes B (get_or L i no_item) (get_or L j no_item)) n
     (λ i h. ap items.waits (sym (get_or-items p n i S C h)))
     (λ i j h k. rw (get_or-items p n i S C h, get_or-items p n j S C k)))
-
--- of the cards that are left
-pub first_item : (p n : ℕ) (S : List ℕ) (C : List Card) (B : Rule) → cards.first_of cards.waits B (take n C) n ≡ items.first_of items.waits B (items_of p n S C)
-first_item p n S C B = first_card p n S (take n C) B ∙ ap (items.first_of items.waits B) (items_front p n S S (take n C) C refl (take-take n n C (omega arith)))
 
 -- the turns left, one for each item that waits, make of L what n make of the list M at the start
 abbrev pub Turned : Rule → Act → ℕ → List Item → List Item → Type 0

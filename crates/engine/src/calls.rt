@@ -40,8 +40,9 @@ fn expand_areas<P: Part, O: Order>(
     ensures fewer { IfOk result (λ n. n ≤ length cards.old) }
 {
     let mut solution = Solution::new(p, cubes, cards);
-    check_foreign(&solution.left(), &Cubes::new(off, p, offs))?;
-    expand_cubes(order, universe, off, offs, &mut solution);
+    let off = Cubes::new(off, p, offs);
+    check_foreign(&solution.left(), &off)?;
+    expand_cubes(order, universe, &off, &mut solution);
     solution.settle();
     Ok(solution.n)
 }

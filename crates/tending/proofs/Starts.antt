@@ -8,7 +8,7 @@ use Rattle.moves.specs.Items.{Item, no_item, weighed, started}
 use Rattle.moves.proofs.Taking.{length-carded, get_or-started}
 use Rattle.table.specs.declared.card.Card.{Card}
 use Rattle.table.specs.Cards.{blank}
-use Rattle.table.proofs.Rows.{overlay_is}
+use Rattle.table.proofs.OnRows.{overlay_is}
 use Rattle.tending.specs.Items.{item_of, items_of, card_of, cards_of}
 use Rattle.tending.proofs.Places.{same_items}
 

@@ -20,17 +20,17 @@ returns g c =
     let V = c.expand_cubes.new.solution in
     let W = c.settle.new.self in
     let made = c.new-solution.ensures in
+    let o = c.new-off.ensures in
     let a = c.expand_cubes.ensures.areas in
     let q : V.p ≡ p = a.p ∙ made.p in
     let m : length V.cards.now ≡ length K = a.length ∙ ap length made.cards in
     let few : V.n ≤ length K = omega (arith, V.within, m) in
     let exact : length V.cubes.now ≡ length K * p = V.exact ∙ rw (q, m) in
     let list : cubes p V.n (map s V.cubes.now) ≡ E =
-    ap (λ r. cubes r V.n (map s V.cubes.now)) (sym q) ∙ c.expand_cubes.ensures.list ∙ rw (made.p, made.n, made.cubes) in
+    ap (λ r. cubes r V.n (map s V.cubes.now)) (sym q) ∙ c.expand_cubes.ensures.list ∙ rw (o.p, o.n, o.parts, made.p, made.n, made.cubes) in
     let settling : map s W.cubes.now ≡ flat (cubes p V.n (map s V.cubes.now)) ++ replicate ((length K - V.n) * p) 0 = c.settle.ensures.cubes ∙ rw (q, m) in
     let none : W.cards.now ≡ replicate (length K) blank = c.settle.ensures.cards ∙ ap (λ n. replicate n blank) m in
     let l = c.left.ensures in
-    let o = c.new.ensures in
     let passed : Ok tt ≡ foreign_verdict 0 R C = c.in_ok-check_foreign.ensures.value ∙ rw (o.parts, o.p, o.n, l.parts, l.p, l.n, made.cubes, made.p, made.n) in
     let long : length (map s A) ≡ length K * p = omega (arith, length-map A s, c.requires.exact) in
     record {

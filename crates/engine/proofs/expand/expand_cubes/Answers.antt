@@ -1,5 +1,5 @@
 use Rattle.std.proofs.Common.{◌≡◌, suc, ◌≤◌, map, take, drop, get_or, Some, None, sym, ap, ◌∙◌, subst, arith}
-use Rattle.cubes.specs.Areas.{cubes}
+use Rattle.cubes.specs.Lists.{sets_of}
 use Rattle.cubes.proofs.Areas.{length-cubes}
 use Rattle.moves.specs.Expand.{expanding}
 use Rattle.moves.specs.Items.{no_item, cubes_of, started, first_of, waits}
@@ -18,7 +18,7 @@ loop-at-init g c =
     let V = c.args.solution.now in
     let T = c.start.new.self in
     let U = take V.p (map s c.args.universe.now) in
-    let R = cubes V.p c.args.offs (map s c.args.off.now) in
+    let R = sets_of s c.args.off.now in
     let C = left s V in
     let most : tally waits (started C) ≤ V.n = omega (arith, waits-started C, length-cubes V.p V.n (map s V.cubes.now)) in
     let same : left s T ≡ C = sym (cubes_items T.p T.n (map s T.cubes.now) T.cards.now) ∙ ap cubes_of c.start.ensures.items ∙ cubes-carded C 0 C in
@@ -32,7 +32,7 @@ pub expand_one-requires-clause-place : goal.expand_one-requires-clause-place
 expand_one-requires-clause-place g c =
     let s = g.P.Part.set in
     let V = c.loop-at.solution in
-    let R = cubes V.p c.args.offs (map s c.args.off.now) in
+    let R = sets_of s c.args.off.now in
     let U = take V.p (map s c.args.universe.now) in
     let B = g.O.Order.before c.args.order.now in
     let first : first_of waits B (items s V) ≡ Some c.in-Some.at = sym c.first_left.ensures ∙ c.in-Some.is in
@@ -43,7 +43,7 @@ loop-at-smaller g c =
     let s = g.P.Part.set in
     let V = c.loop-at.solution in
     let U = take V.p (map s c.args.universe.now) in
-    let R = cubes V.p c.args.offs (map s c.args.off.now) in
+    let R = sets_of s c.args.off.now in
     let B = g.O.Order.before c.args.order.now in
     let first : first_of waits B (items s V) ≡ Some c.in-Some.at = sym c.first_left.ensures ∙ c.in-Some.is in
     fewer_wait B (expanding U R) (expanding_less U R any) (items s V) c.in-Some.at (items s c.expand_one.new.solution) first c.expand_one.ensures.items
@@ -55,20 +55,18 @@ loop-at-preserved g c =
     let V = c.loop-at.solution in
     let W = c.expand_one.new.solution in
     let us = map s c.args.universe.now in
-    let os = map s c.args.off.now in
-    let offs = c.args.offs in
     let at = c.in-Some.at in
     let L = items s V in
     let U = take F.p us in
-    let R = cubes F.p offs os in
+    let R = sets_of s c.args.off.now in
     let B = g.O.Order.before c.args.order.now in
     let inv = c.loop-at.invariant in
     let first : first_of waits B L ≡ Some at = sym c.first_left.ensures ∙ c.in-Some.is in
     let made : items s W ≡ expanding U R (take at L) (get_or L at no_item) (drop (suc at) L) =
-    c.expand_one.ensures.items ∙ ap (λ p. expanding (take p us) (cubes p offs os) (take at L) (get_or L at no_item) (drop (suc at) L)) inv.areas.p in
+    c.expand_one.ensures.items ∙ ap (λ p. expanding (take p us) R (take at L) (get_or L at no_item) (drop (suc at) L)) inv.areas.p in
     record {
       turned = turned_some B (expanding U R) (expanding_less U R any) L at (items s W) first made F.n (started (left s F)) inv.turned;
-      apart = subst (λ p. Apart (cubes p offs os) (left s W)) inv.areas.p c.expand_one.ensures.apart;
+      apart = c.expand_one.ensures.apart;
       areas = both_steps F V W inv.areas c.expand_one.ensures.areas;
     }
 
@@ -78,7 +76,7 @@ returns-clause-list g c =
     let F = c.args.solution.now in
     let V = c.loop-at.solution in
     let U = take F.p (map s c.args.universe.now) in
-    let R = cubes F.p c.args.offs (map s c.args.off.now) in
+    let R = sets_of s c.args.off.now in
     let B = g.O.Order.before c.args.order.now in
     let C = left s F in
     let none : first_of waits B (items s V) ≡ None = sym c.first_left.ensures ∙ c.in_default.is in

@@ -1,5 +1,5 @@
 use Rattle.std.proofs.Common.{map, take}
-use Rattle.cubes.specs.Areas.{cubes}
+use Rattle.cubes.specs.Lists.{sets_of}
 use Rattle.moves.specs.Expand.{expanding}
 use Rattle.moves.specs.Items.{started, waits}
 use Rattle.moves.specs.Sound.{Apart}
@@ -13,7 +13,7 @@ invariant-loop-at g l =
     let s = g.P.Part.set in
     let V = l.fn.solution in
     let U = take V.p (map s l.universe) in
-    let R = cubes V.p l.offs (map s l.off) in
+    let R = sets_of s l.off in
     record {
       turned : Turned (g.O.Order.before l.order) (expanding U R) V.n (started (left s V)) (items s l.solution);
       apart : Apart R (left s l.solution);

@@ -1,9 +1,11 @@
 use Rattle.std.proofs.Common.{◌≡◌, ◌*◌, ◌<◌, ◌≤◌, false, map, length, take, drop, suc, get_or, sym, ap, ◌∙◌, subst, arith}
 use Rattle.std.proofs.lemmas.List.{length-map}
-use Rattle.cubes.specs.Areas.{cube_at, cubes}
+use Rattle.cubes.specs.Areas.{cube_at, cubes, put_at}
+use Rattle.cubes.specs.Lists.{sets_of}
 use Rattle.cubes.specs.Cubes.{Wide}
 use Rattle.cubes.proofs.Areas.{place_below, length-cube_at, length-cubes, get_or-cubes, wide_cubes}
-use Rattle.moves.specs.Expand.{expanding}
+use Rattle.moves.specs.Expand.{expanding, grown}
+use Rattle.growth.specs.Others.{others}
 use Rattle.moves.specs.Items.{no_item, cubes_of}
 use Rattle.moves.specs.Sound.{Apart}
 use Rattle.moves.specs.Widen.{touches}
@@ -17,9 +19,9 @@ pub grow-requires-clause-apart : goal.grow-requires-clause-apart
 grow-requires-clause-apart g c =
     let s = g.P.Part.set in
     let V = c.args.solution.now in
-    let R = cubes V.p c.args.offs (map s c.args.off.now) in
+    let R = sets_of s c.args.off.now in
     let h : c.args.at < length (left s V) = omega (arith, length-cubes V.p V.n (map s V.cubes.now), c.requires.place) in
-    ap (λ f. touches f R) (sym (get_or-cubes V.p V.n c.args.at (map s V.cubes.now) c.requires.place)) ∙ apart-at R (left s V) c.args.at h c.requires.apart
+    ap (λ m. touches (cube_at m c.args.at (map s V.cubes.now)) R) c.requires.wide ∙ ap (λ f. touches f R) (sym (get_or-cubes V.p V.n c.args.at (map s V.cubes.now) c.requires.place)) ∙ apart-at R (left s V) c.args.at h c.requires.apart
 
 pub returns : goal.returns
 returns g c =
@@ -31,19 +33,21 @@ returns g c =
     let K = V.cards.now in
     let S = map s V.cubes.now in
     let U = take p (map s c.args.universe.now) in
-    let R = cubes p c.args.offs (map s c.args.off.now) in
+    let l = c.args.off.now in
+    let R = sets_of s l in
     let C = left s V in
     let L = items s V in
     let fits : n * p ≤ length S = omega (arith, length-map V.cubes.now s, places_within p n (length K) V.within, V.exact) in
-    let listed : c.args.offs * p ≤ length (map s c.args.off.now) = omega (arith, length-map c.args.off.now s, c.requires.fits) in
-    let wR : Wide p R = wide_cubes p c.args.offs (map s c.args.off.now) listed in
+    let listed : l.n * l.p ≤ length (map s l.parts.now) = rw length-map l.fits in
+    let wR : Wide p R = subst (λ m. Wide m R) c.requires.wide (wide_cubes l.p l.n (map s l.parts.now) listed) in
+    let set = c.grow.ensures.sets ∙ ap (λ m. put_at m at (grown (take m (map s c.args.universe.now)) R (cube_at m at S) (others at (cubes m n S))) S) c.requires.wide in
     let h : at < length C = omega (arith, length-cubes p n S, c.requires.place) in
     let t : touches (cube_at p at S) R ≡ false = ap (λ f. touches f R) (sym (get_or-cubes p n at S c.requires.place)) ∙ apart-at R C at h c.requires.apart in
     let below = place_below at n p c.requires.place in
     let size : length (cube_at p at S) ≡ p = length-cube_at p at S (omega arith) in
     let W = c.remove_covered.new.self in
     let all : items s W ≡ expanding U R (take at L) (get_or L at no_item) (drop (suc at) L) =
-    c.remove_covered.ensures.items ∙ ap (λ Y. only_at at (items_of p n Y K)) c.grow.ensures.sets ∙ grown_items p n S K fits V.within U R at c.requires.place wR t size in
+    c.remove_covered.ensures.items ∙ ap (λ Y. only_at at (items_of p n Y K)) set ∙ grown_items p n S K fits V.within U R at c.requires.place wR t size in
     let a = c.remove_covered.ensures.areas in
     record {
       items = all;

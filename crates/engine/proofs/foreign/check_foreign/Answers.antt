@@ -27,7 +27,7 @@ overflow_step-i g c =
     let l = c.args.solution.now in
     let t = c.iter-cube-items.result in
     let here = below l.p l.n l.parts.now c.loop-i.i c.in-Some.cube.now _ (sym c.loop-i.invariant.left ∙ c.in-Some.ensures.steps) in
-    let same : t.n ≡ l.n = omega (arith, ap length c.iter-cube-items.ensures, length-cubes t.p t.n t.rest.now, length-cubes l.p l.n l.parts.now) in
+    let same : t.n ≡ l.n = omega (arith, ap length c.iter-cube-items.ensures.rest, length-cubes t.p t.n t.rest.now, length-cubes l.p l.n l.parts.now) in
     let h : c.loop-i.i + 1 < 2 ^ 64 = omega arith in
     search rules
 

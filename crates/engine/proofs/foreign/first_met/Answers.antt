@@ -16,5 +16,5 @@ returns g c =
     let l = c.args.off.now in
     let s = g.P.Part.set in
     let f = map s c.args.cube.now in
-    let list = YieldsList-from_first (λ x. x.now) (λ i. cubes i.p i.n i.rest.now) (cubes l.p l.n l.parts.now) c.iter.ensures in
+    let list = YieldsList-from_first (λ x. x.now) (λ i. cubes i.p i.n i.rest.now) (cubes l.p l.n l.parts.now) c.iter.ensures.rest in
     position_from_yields_List (met s f) c.position.new.self _ c.position.result c.position.ensures.ran list (λ x b q k. search (rules, tests)) ∙ sym (met_is s f l.p l.n l.parts.now)
