@@ -26,27 +26,7 @@ left-none s xs i h = drop_all i (map s xs) (rw length-map h)
 pub empty_is : (n m : ℕ) (r t : Bool) → n ≡ m → r ≡ eqb n 0 → r ≡ t → eqb m 0 ≡ t
 empty_is n m r t e f h = ap (λ k. eqb k 0) (sym e) ∙ sym f ∙ h
 
--- F is a test of two cubes, part by part; `λ _ _ _ _. refl` shows its step
-module _ (F : List ℕ → List ℕ → Bool) (test : ℕ → ℕ → Bool) (step : (a b : ℕ) (A B : List ℕ) → F (a ∷ A) (b ∷ B) ≡ (test a b && F A B)) {X : Type 0} (s : X → ℕ) (xs ys : List X) (i : ℕ) (x y : X) (hx : i < length xs) (hy : i < length ys) (ex : x ≡ get_or xs i x) (ey : y ≡ get_or ys i y) where
-  pair_step : F (drop i (map s xs)) (drop i (map s ys)) ≡ (test (s x) (s y) && F (drop (i + 1) (map s xs)) (drop (i + 1) (map s ys)))
-  pair_step = rw (left-set s xs i x hx ex, left-set s ys i y hy ey) (step (s x) (s y) (drop (i + 1) (map s xs)) (drop (i + 1) (map s ys)))
-
-  -- where F of what is left is r, by the test of the two parts that are next
-  pub pair_true : test (s x) (s y) ≡ true → (r : Bool) → F (drop i (map s xs)) (drop i (map s ys)) ≡ r → F (drop (i + 1) (map s xs)) (drop (i + 1) (map s ys)) ≡ r
-  pair_true t r inv = sym (pair_step ∙ ap (λ b. b && F (drop (i + 1) (map s xs)) (drop (i + 1) (map s ys))) t) ∙ inv
-
-  pub pair_false : test (s x) (s y) ≡ false → (r : Bool) → F (drop i (map s xs)) (drop i (map s ys)) ≡ r → false ≡ r
-  pair_false t r inv = sym (pair_step ∙ ap (λ b. b && F (drop (i + 1) (map s xs)) (drop (i + 1) (map s ys))) t) ∙ inv
-
--- past the shorter of two cubes
-pub pair_none : (F : List ℕ → List ℕ → Bool) → ((B : List ℕ) → F [] B ≡ true) → ((A : List ℕ) → F A [] ≡ true) → {X : Type 0} (s : X → ℕ) (xs ys : List X) (i : ℕ) → min (length xs) (length ys) ≤ i → (r : Bool) → F (drop i (map s xs)) (drop i (map s ys)) ≡ r → true ≡ r
-pair_none F none none' s xs ys i h r inv =
-    let all : F (drop i (map s xs)) (drop i (map s ys)) ≡ true =
-    ⊎_elim (λ l. rw (left-none s ys i (omega arith)) (none' (drop i (map s xs))))
-    (λ l. rw (left-none s xs i l) (none (drop i (map s ys)))) (cases_lt i (length xs)) in
-    sym all ∙ inv
-
--- such a test of all pairs of parts
+-- a test of two cubes, part by part, is a test of all pairs of parts
 module _ (F : List ℕ → List ℕ → Bool) (test : ℕ → ℕ → Bool) (none : (B : List ℕ) → F [] B ≡ true) (none' : (a : ℕ) (A : List ℕ) → F (a ∷ A) [] ≡ true) (step : (a b : ℕ) (A B : List ℕ) → F (a ∷ A) (b ∷ B) ≡ (test a b && F A B)) {X : Type 0} (s : X → ℕ) where
   pair_all : (xs ys : List X) → F (map s xs) (map s ys) ≡ list_all (λ (q : X × X). test (s q.0) (s q.1)) (zip xs ys)
   pair_all [] ys = none (map s ys)
@@ -65,14 +45,3 @@ same_length [] [] h = absurd (h refl)
 same_length [] (b ∷ B) h = refl
 same_length (a ∷ A) [] h = refl
 same_length (a ∷ A) (b ∷ B) h = and_right (eqb a b) (same A B) (same_length A B (λ e. h (omega arith)))
-
--- sets are equal where neither has a value outside the other
-pub same_sets : (a b : ℕ) → eqb (minus a b) 0 ≡ true → eqb (minus b a) 0 ≡ true → eqb a b ≡ true
-same_sets a b h k = eq-eqb a b (same-minus a b (eqb-true (minus a b) 0 h) (eqb-true (minus b a) 0 k))
-
-pub other_sets : (a b : ℕ) → eqb (minus a b) 0 ≡ false → eqb a b ≡ false
-other_sets a b h =
-    ne_eqb a b (λ e. eqb-false (minus a b) 0 h (omega (arith, ap (bit_and a) e, and_self a)))
-
-pub other_sets' : (a b : ℕ) → eqb (minus b a) 0 ≡ false → eqb a b ≡ false
-other_sets' a b h = ne_eqb a b (λ e. eqb-false (minus b a) 0 h (omega (arith, ap (bit_and b) e, and_self b)))

@@ -32,10 +32,3 @@ cleared_part s k n xs ys e f =
 
 pub most_fits : (p parts most : ℕ) → 1 ≤ p → most ≡ min 4096 (parts / p) → most * p ≤ parts
 most_fits p parts most h e = (le-div_iff_mul-le h).0 (omega arith)
-
--- what lies behind a part that was written
-pub behind_part : {X : Type 0} (k n : ℕ) (xs ys : List X) → k ≡ n → length ys ≡ n → drop n (ys ++ drop k xs) ≡ drop n xs
-behind_part k n xs ys e l = drop_at ys (drop k xs) n l ∙ ap (λ m. drop m xs) e
-
-pub cleared_numbers_lem : (k n : ℕ) (xs ys : List ℕ) → k ≡ n → ys ≡ replicate n 0 → ys ++ drop k xs ≡ overlay (replicate n 0) xs
-cleared_numbers_lem k n xs ys e f = ap (λ A. A ++ drop k xs) f ∙ ap (λ m. replicate n 0 ++ drop m xs) (e ∙ sym (length-replicate n 0))

@@ -88,12 +88,6 @@ module _ {X : Type 0} (p : ℕ) (all : List (List X)) (E : List X) (F : List Car
         cards-left on N room F inv.4,
       )
 
-  pub copying_off : is_on k ≡ false → Copying p all E F C cs on S N
-  copying_off t =
-      let R = on_beside C cs in
-      let e : on_beside (c ∷ C) (k ∷ cs) ≡ R = ap (λ b. cond b (c ∷ R) R) t in
-      (omega (arith, inv.0, ap length e), ap (λ D. take (on * p) S ++ flat D) (sym e) ∙ inv.1, inv.2, inv.3, inv.4)
-
 pub copying_none : {X : Type 0} (p : ℕ) (C : List (List X)) (cs : List Card) (E : List X) (F : List Card) → Copying p (on_beside C cs) E F C cs 0 E F
 copying_none p C cs E F = let e : 0 * p ≡ 0 = omega arith in rw e (omega arith, refl, refl, refl, refl)
 

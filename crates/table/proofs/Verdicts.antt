@@ -29,23 +29,6 @@ pub sizes_step : (most p k : ℕ) (xs : List ℕ) → k < p → p ≤ length xs
     ≡ cond (ltb (get_or xs k 0) 1 || ltb most (get_or xs k 0)) (Err (Shape k (get_or xs k 0))) (sizes_verdict most (k + 1) (drop (k + 1) (take p xs)))
 sizes_step most p k xs h l = rw (left p k xs h l, add-one)
 
-pub sizes_end : (most p k : ℕ) (xs : List ℕ) → p ≤ k → sizes_verdict most k (drop k (take p xs)) ≡ Ok tt
-sizes_end most p k xs h = let n : length (take p xs) ≤ k = simp length-take (omega arith) in rw (drop_all k (take p xs) n)
-
-pub shape_sizes : (most p : ℕ) (xs : List ℕ) → 1 ≤ p → p ≤ 16 → shape_verdict most p xs ≡ sizes_verdict most 0 (take p xs)
-shape_sizes most p xs h l = rw (le-ltb p 1 h, le-ltb 16 p l)
-
--- a size that is refused, and one that is not
-pub sizes_refused : (most p k : ℕ) (xs : List ℕ) → k < p → p ≤ length xs → (get_or xs k 0 < 1) ⊎ ((1 ≤ get_or xs k 0) × (most < get_or xs k 0))
-    → sizes_verdict most k (drop k (take p xs)) ≡ Err (Shape k (get_or xs k 0))
-sizes_refused most p k xs h l e =
-    let t : (ltb (get_or xs k 0) 1 || ltb most (get_or xs k 0)) ≡ true = grind (arith, nat_tests) in sizes_step most p k xs h l ∙ rw t
-
-pub sizes_passed : (most p k : ℕ) (xs : List ℕ) → k < p → p ≤ length xs → 1 ≤ get_or xs k 0 → get_or xs k 0 ≤ most
-    → sizes_verdict most k (drop k (take p xs)) ≡ sizes_verdict most (k + 1) (drop (k + 1) (take p xs))
-sizes_passed most p k xs h l a b =
-    let t : (ltb (get_or xs k 0) 1 || ltb most (get_or xs k 0)) ≡ false = grind (arith, nat_tests) in sizes_step most p k xs h l ∙ rw t
-
 -- a check that passed found nothing
 pub passed : (t : Bool) (c : Cause) (v : Verdict) → cond t (Err c) v ≡ Ok tt → (t ≡ false) × (v ≡ Ok tt)
 passed true c v e = let z : ◌≡◌ {A = ℕ} 0 1 = cc in absurd (omega arith)
@@ -104,14 +87,6 @@ pub outside_step : {X : Type 0} (f : ℕ → ℕ) (s : X → ℕ) (xs : List ℕ
     (Err (Outside k (count_trailing_zeros 64 (minus (f (get_or xs k 0)) (s u)))))
 outside_step f s xs us k u h l e = rw (word_left f xs k h, row-left s us k u l e, add-one)
 
-pub outside_end : (A U : List ℕ) (k : ℕ) → (length A ≤ k) ⊎ (length U ≤ k) → outside_verdict k (drop k A) (drop k U) ≡ Ok tt
-outside_end A U k (inl h) = rw (drop_all k A h)
-outside_end A U k (inr h) = rw (drop_all k U h) (none k (drop k A))
-  where
-    none : (k : ℕ) (B : List ℕ) → outside_verdict k B [] ≡ Ok tt
-    none k [] = refl
-    none k (b ∷ B) = refl
-
 -- where one of them has no part left
 pub outside_none : (k : ℕ) (A U : List ℕ) → (length A ≡ 0) ⊎ (length U ≡ 0) → outside_verdict k A U ≡ Ok tt
 outside_none k [] U h = refl
@@ -143,9 +118,6 @@ area_passed area has needed e = ltb-false has needed (passed (ltb has needed) (A
 pub fits_area : (p parts beside n : ℕ) → 1 ≤ p → n ≤ area_length p parts beside → (n * p ≤ parts) × (n ≤ beside)
 fits_area p parts beside n h l = ((le-div_iff_mul-le h).0 (omega arith), omega arith)
 
-pub first_cube : {X : Type 0} (p : ℕ) (xs : List X) → cube_at p 0 xs ≡ take p xs
-first_cube p xs = let e : 0 * p ≡ 0 = omega arith in rw e
-
 -- ---- rows
 
 pub length_rows : (p n : ℕ) (ts : List ℕ) (cs : List Card) → length (rows_of p n ts cs) ≡ n
@@ -162,6 +134,12 @@ rows_left p (suc n) (suc i) ts cs h =
     rw f (rows_left p n i (drop p ts) (drop 1 cs) (omega arith)
     ∙ ap₂ (λ (A : List ℕ) (c : Card). record { cube = take p A; on = is_on c } ∷ drop (i + 1) (rows_of p n (drop p ts) (drop 1 cs)))
     (drop-drop (i * p) p ts ∙ ap (λ m. drop m ts) e) (get_or-drop 1 cs i blank ∙ ap (λ m. get_or cs m blank) (one-add i)))
+
+pub repeat_step : (kind : Kind) (A : Cube) (p n i : ℕ) (ts : List ℕ) (cs : List Card) → i < n
+    → repeat_verdict kind A i (drop i (rows_of p n ts cs))
+    ≡ cond (beq (is_on (get_or cs i blank)) (is_on_kind kind) && same_parts (cube_at p i ts) A) (Err (Repeat i kind))
+    (repeat_verdict kind A (i + 1) (drop (i + 1) (rows_of p n ts cs)))
+repeat_step kind A p n i ts cs h = rw (rows_left p n i ts cs h, add-one)
 
 -- the next row is the first that has the same parts, or it is passed
 pub repeat_found : (kind : Kind) (A : Cube) (i : ℕ) (r : Row) (T : List Row) → beq r.on (is_on_kind kind) ≡ true → same_parts r.cube A ≡ true

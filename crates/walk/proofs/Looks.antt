@@ -16,24 +16,6 @@ onto Gone x = Gone
 onto (Cut k) x = after k x
 onto Free x = x
 
-onto_free : (f : Look) → onto f Free ≡ f
-onto_free Gone = refl
-onto_free (Cut k) = refl
-onto_free Free = refl
-
-onto_gone : (f : Look) → onto f Gone ≡ Gone
-onto_gone Gone = refl
-onto_gone (Cut k) = refl
-onto_gone Free = refl
-
--- the first row that meets the piece stays the first
-onto-after : (f : Look) (j : ℕ) (x : Look) → (f ≡ Free → ⊥) → onto f (after j x) ≡ onto f x
-onto-after Gone j x h = refl
-onto-after (Cut k) j Gone h = refl
-onto-after (Cut k) j (Cut m) h = refl
-onto-after (Cut k) j Free h = refl
-onto-after Free j x h = absurd (h refl)
-
 -- ---- what a row said, by what all say
 
 free_step : (m k : Bool) (i : ℕ) (x : Look) → cond m (cond k Gone (after i x)) x ≡ Free → (m ≡ false) × (x ≡ Free)

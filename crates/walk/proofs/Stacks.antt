@@ -54,9 +54,6 @@ piece-test s p t k xs ys x y n r b h l m ex ey en er eb =
     rw (rx, ry) (ap not (empty_is n (minus (s x) (s y)) r b en er eb))
 
 module _ (next k : ℕ) (a b : List ℕ) (es : List Task) where
-  pub piece-empty : some (minus (get_or a k 0) (get_or b k 0)) ≡ false → es ≡ numbered next (piece_at k a b) ++ es
-  piece-empty e = sym (ap (λ t. numbered next (cond t (piece k a b ∷ []) []) ++ es) e)
-
   pub piece-some : some (minus (get_or a k 0) (get_or b k 0)) ≡ true → (next, piece k a b) ∷ es ≡ numbered next (piece_at k a b) ++ es
   piece-some e = sym (ap (λ t. numbered next (cond t (piece k a b ∷ []) []) ++ es) e)
 
