@@ -11,7 +11,7 @@ use Rattle.table.specs.Cards.{blank, area_length}
 use Rattle.table.specs.Filling.{Verdict, area_verdict}
 use Rattle.table.proofs.Verdicts.{then_both, area_passed, fits_area}
 use Rattle.tending.proofs.Places.{places_within, places_between}
-use Rattle.engine.specs.declared.areas.Lengths.{Lengths}
+use Rattle.table.specs.declared.areas.Lengths.{Lengths}
 use Rattle.engine.specs.Areas.{areas_verdict, settled, blanked}
 use Rattle.engine.specs.Calls.{Moved, moved_by}
 

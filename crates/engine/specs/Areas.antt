@@ -5,7 +5,7 @@ use Rattle.cubes.specs.Cubes.{Cover}
 use Rattle.table.specs.declared.card.Card.{Card}
 use Rattle.table.specs.Cards.{blank, area_length}
 use Rattle.table.specs.Filling.{Verdict, ◌then◌, area_verdict}
-use Rattle.engine.specs.declared.areas.Lengths.{Lengths}
+use Rattle.table.specs.declared.areas.Lengths.{Lengths}
 
 -- the areas, the lowest first, by the lengths that they have and those that are needed; an area that is not used needs nothing
 abbrev pub areas_verdict : Lengths → Lengths → Verdict

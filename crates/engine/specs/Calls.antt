@@ -9,7 +9,7 @@ use Rattle.orders.specs.Rules.{Rule}
 use Rattle.table.specs.declared.card.Card.{Card}
 use Rattle.table.specs.Cards.{area_length}
 use Rattle.table.specs.Filling.{Verdict, ◌then◌}
-use Rattle.engine.specs.declared.areas.Lengths.{Lengths}
+use Rattle.table.specs.declared.areas.Lengths.{Lengths}
 use Rattle.engine.specs.Areas.{areas_verdict, settled, blanked}
 use Rattle.engine.specs.Foreign.{foreign_verdict}
 

@@ -1,20 +1,10 @@
-//! The lengths of areas.
+//! The checks of all areas.
 ghost use Rattle.std.specs.Prelude.{◌≡◌};
 ghost use Rattle.engine.specs.Areas.{areas_verdict};
 
 use faults::Cause;
+pub use table::areas::Lengths;
 use table::begin::check_area;
-
-/// The lengths of the six areas: the universe in parts, the line in bytes, the others in cubes.
-#[derive(Clone, Copy, Default)]
-pub struct Lengths {
-    pub universe: usize,
-    pub table: usize,
-    pub off: usize,
-    pub solution: usize,
-    pub work: usize,
-    pub line: usize,
-}
 
 /// Whether each area has what is needed, the lowest first. An area that a call does not use needs nothing.
 // The numbers are those that a refusal prints.

@@ -9,9 +9,10 @@ use crate::types::{Open, Table};
 use cubes::list::Cubes;
 use faults::{Fault, Layer};
 use parts::Part;
+use table::areas::Lengths;
 use table::card::Card;
 use table::off::off_list;
-use table::open::{Lengths, check_open, copy_on_rows};
+use table::open::{check_open, copy_on_rows};
 use table::row::area_length;
 use table::rows::Rows;
 
@@ -42,6 +43,7 @@ pub fn open<P: Part>(
         table: area_length(p, table.len(), rows.len()),
         solution: area_length(p, solution.len(), cards.len()),
         work: area_length(p, work.len(), numbers.len()),
+        ..Lengths::default()
     };
     if let Err(cause) = check_open(p, n, rows, has) {
         return Err((t, cause.by(Layer::Engine)));

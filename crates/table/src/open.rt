@@ -4,6 +4,7 @@ ghost use Rattle.cubes.specs.Areas.{overlay, flat};
 ghost use Rattle.table.specs.Cards.{blank, on_cubes, on_count};
 ghost use Rattle.table.specs.Opening.{open_verdict};
 
+use crate::areas::Lengths;
 use crate::begin::check_area;
 use crate::card::Card;
 use crate::rows::Rows;
@@ -36,15 +37,6 @@ pub fn copy_on_rows<P: Part>(rows: &Rows<P>, solution: &mut [P], notes: &mut [Ca
         }
     }
     on
-}
-
-/// The lengths of the areas that Open uses: the universe in parts, the others in cubes.
-#[derive(Clone, Copy)]
-pub struct Lengths {
-    pub universe: usize,
-    pub table: usize,
-    pub solution: usize,
-    pub work: usize,
 }
 
 /// Whether the areas that Open uses are long enough, the lowest first.
