@@ -8,14 +8,14 @@ ghost use Rattle.orders.specs.Searches.{waits, untried, first_of, IsFirstOf, lig
 use crate::{Direction, Light, Order, Rank};
 use table::card::Card;
 
-// What an order reads of a card.
-fn rank_of(card: &Card) -> Rank
-    ensures weight { result.weight ≡ card.now.weight }
-    ensures place { result.place ≡ card.now.place }
-{
-    Rank {
-        weight: card.weight,
-        place: card.place,
+impl From<Card> for Rank {
+    ghost from_gives = { λ c r. (r.weight ≡ c.weight) × (r.place ≡ c.place) };
+
+    fn from(card: Card) -> Rank {
+        Rank {
+            weight: card.weight,
+            place: card.place,
+        }
     }
 }
 
@@ -35,7 +35,7 @@ fn first_where<O: Order, F: Fn(&Card) -> bool>(
             found = match found {
                 None => Some(i),
                 Some(b) => {
-                    if along.comes_before(order, rank_of(card), rank_of(&cards[b])) {
+                    if along.comes_before(order, Rank::from(*card), Rank::from(cards[b])) {
                         Some(i)
                     } else {
                         Some(b)
