@@ -13,6 +13,7 @@ pub fn cube_at<P: Part>(area: &[P], i: usize, p: usize) -> &[P]
 }
 
 /// Writes the cube `src` at place `i` of `dst`.
+// On a slice and no list: `Cubes` reads, and the areas that are written have their counts only when they are filled.
 pub fn copy_cube<P: Part>(dst: &mut [P], i: usize, p: usize, src: &[P])
     requires src_len { length src.now ≡ p }
     requires p_in_bounds { i * p + p ≤ length dst.old }
@@ -22,6 +23,7 @@ pub fn copy_cube<P: Part>(dst: &mut [P], i: usize, p: usize, src: &[P])
 }
 
 /// Makes every part of `area` empty.
+// Not `fill`: it clones, and of a clone of a part of any kind nothing is known.
 pub fn clear<P: Part>(area: &mut [P])
     ensures { map P.set area.new ≡ replicate (length area.old) 0 }
 {

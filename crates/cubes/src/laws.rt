@@ -3,50 +3,36 @@ ghost use Rattle.cubes.specs.Examples.{AllRight, WorkedCover};
 ghost use Rattle.cubes.specs.Theorems.{RestExact, RestApart, MeetsExact, CoversExact, OnRowsLawful};
 
 /// What is left of a universe when the rows are cut out of it holds exactly the off vertices.
-pub fn rest_is_exact() -> u8
+pub fn rest_is_exact()
     ensures { RestExact }
-{
-    0
-}
+{}
 
 /// No vertex is in two cubes of what is left.
-pub fn rest_is_apart() -> u8
+pub fn rest_is_apart()
     ensures { RestApart }
-{
-    0
-}
+{}
 
 /// Cubes meet exactly if they share a vertex.
-pub fn meets_is_exact() -> u8
+pub fn meets_is_exact()
     ensures { MeetsExact }
-{
-    0
-}
+{}
 
 /// A cube covers another exactly if it holds all of its vertices.
-pub fn covers_is_exact() -> u8
+pub fn covers_is_exact()
     ensures { CoversExact }
-{
-    0
-}
+{}
 
 /// The ON rows of a table hold every care vertex and no off vertex.
-pub fn on_rows_are_lawful() -> u8
+pub fn on_rows_are_lawful()
     ensures { OnRowsLawful }
-{
-    0
-}
+{}
 
 /// The operations make what the worked cases say.
-pub fn cases_are_right() -> u8
+pub fn cases_are_right()
     ensures { AllRight }
-{
-    0
-}
+{}
 
 /// The worked cover is lawful, prime and irredundant.
-pub fn cover_is_worked() -> u8
+pub fn cover_is_worked()
     ensures { WorkedCover }
-{
-    0
-}
+{}

@@ -7,7 +7,7 @@ pub use table::areas::Lengths;
 use table::begin::check_area;
 
 /// Whether each area has what is needed, the lowest first. An area that a call does not use needs nothing.
-// The numbers are those that a refusal prints.
+// Areas go by number, as `check_area` takes them.
 pub fn check_areas(has: Lengths, needs: Lengths) -> Result<(), Cause>
     ensures { result ≡ areas_verdict has needs }
 {

@@ -48,6 +48,7 @@ fn expand_areas<P: Part, O: Order>(
 }
 
 /// Expand, of a session with `p` parts, `offs` off cubes and `count` solution cubes; the answer is the cubes left.
+// Slices, as the caller lends them: see `session::open`.
 pub fn expand_solution<P: Part, O: Order>(
     p: usize,
     offs: usize,

@@ -49,6 +49,7 @@ pub enum Cause {
     /// A limit of rounds is not 1 to 512.
     Limit { rounds: usize },
     /// An area is too short; so much is needed.
+    // The area's number stays a number: whoever checks an area names it by any number, and an enum would ask more of them.
     Area { area: usize, needed: usize },
     /// A part of a row has no value.
     Empty { part: usize },
@@ -93,6 +94,7 @@ impl Layer {
     }
 }
 
+// A table of numbers and one of names: the cases hold places, so no cast gives the number, and what differs is the answer of each case.
 impl Cause {
     /// The number, 1 to 14.
     pub fn number(&self) -> u8

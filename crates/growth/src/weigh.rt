@@ -26,7 +26,7 @@ pub(crate) fn add_weights<P: Part>(cube: &[P], f: &[P], weights: &mut [usize])
 }
 
 /// Whether each part of the cube lies within its word.
-// Not `covers`: that is of two cubes of one kind, and to make words of the parts costs more than parts of the words.
+// Not `covers`: that is of two cubes of one kind, and to make words of the parts walks every value of each, which a part of a word does not.
 pub(crate) fn within_words<P: Part>(cube: &[P], words: &[Word]) -> bool
     ensures { result ≡ covers (map word_set words.now) (map P.set cube.now) }
 {

@@ -11,8 +11,8 @@ use std::alloc::{AllocError, Global};
 
 pub mod laws;
 
-// A lent line, and how many of its bytes are written. What is written are bytes, and no text by `Display`: there is no heap here, and a
-// `write!` into lent bytes does not promise what they hold then.
+// A lent line, and how many of its bytes are written. No `Display`: a caller lends the bytes and may have no heap, and a `write!` into a lent
+// slice promises nothing of what the slice holds then, nor of the bytes beyond.
 struct Line<'a> {
     bytes: &'a mut [u8],
     len: usize,
@@ -81,7 +81,7 @@ impl Line<'_> {
         }
     }
 
-    // The digits of `n`. The library writes a number into lent bytes with no promise of what they hold, so they go in one by one.
+    // The digits of `n`, one by one: the text that the library makes of a number would have to be pushed byte by byte too.
     fn decimal(&mut self, n: usize)
         requires { self.old.len + length (decimal n) ≤ length self.old.bytes.now }
         ensures { Appended (decimal n) self.old self.new }

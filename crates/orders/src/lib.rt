@@ -101,7 +101,7 @@ impl<A: Order, B: Order> Order for Either<A, B> {
 }
 
 /// How an order that is lent is taken: as it is, or turned round.
-// Beside `Reverse`, which is another type: here one type of order is taken both ways, as the program runs.
+// `Either<&O, Reverse<&O>>` would say the same in more words, and this is what callers of the searches name.
 #[derive(Clone, Copy)]
 pub enum Direction {
     Along,
@@ -164,7 +164,7 @@ impl TryFrom<u8> for Chosen {
     }
 }
 
-/// The order for an order byte, or none where the byte has no meaning.
+/// The order for an order byte, or none where the byte has no meaning: `TryFrom` for callers that want an `Option`.
 pub fn order_of(byte: u8) -> Option<Chosen>
     ensures { result ≡ order_of byte }
 {

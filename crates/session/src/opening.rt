@@ -19,6 +19,7 @@ use table::rows::Rows;
 /// Opens a table: its off list goes to the off area (3), and its ON rows to the solution (4, with its cards) as the solution to start with;
 /// the work area (5, with its numbers) is used and cleared. Refuses `area` and `off`; after `off` the off area holds the cubes that fit, and
 /// the work area is cleared.
+// Slices, not a bundle of areas: each call names those that it uses, and a bundle would ask its callers to lend all of them together.
 pub fn open<P: Part>(
     t: Table,
     universe: &[P],

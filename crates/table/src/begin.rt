@@ -8,6 +8,7 @@ use faults::Cause;
 use parts::Part;
 
 /// Whether an area of this length has what is needed.
+// The area is named by any number: an enum would ask more of callers.
 pub fn check_area(area: usize, has: usize, needed: usize) -> Result<(), Cause>
     ensures { result ≡ area_verdict area has needed }
 {

@@ -7,7 +7,7 @@ pub use faults::Kind;
 /// The card of a cube. Add writes the kind and the starting place of a row; the engine keeps its weights and marks here.
 #[derive(Clone, Copy)]
 pub struct Card {
-    /// 0 is an ON row; any other number is a DC row.
+    /// 0 is an ON row; any other number is a DC row. It is no `Kind`, since a card lies in lent memory, where any number may stand.
     pub kind: u8,
     /// How many values the cube shares with each cube of the solution.
     pub weight: usize,

@@ -13,6 +13,7 @@ use cubes::list::Cubes;
 use parts::Part;
 
 /// What the rows from a number on do to a piece.
+// Three cases, each with its own step: no `Option`, which has two.
 #[derive(Clone, Copy)]
 pub(crate) enum Look {
     /// Some row covers all of it: nothing is left.

@@ -91,6 +91,7 @@ impl<'a, P: Part> Stack<'a, P> {
         ensures stack { tasks P.set self.new ≡ numbered next (pieces (cube_at self.old.p (self.old.depth - 1) (map P.set self.old.work.now)) (map P.set row.now)) ++ stack_of self.old.p (self.old.depth - 1) (map P.set self.old.work.now) self.old.numbers.now }
     {
         self.pop();
+        // By number: a piece is named by the part that it differs in.
         for k in (0..self.p).rev() {
             self.push_piece(row, k, next);
         }
