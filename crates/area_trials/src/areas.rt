@@ -87,6 +87,7 @@ impl<T> Area<T> {
     }
 
     /// What is lent, to be written.
+    // Beside `lent`: no function is generic in whether it borrows to read or to write.
     pub(crate) fn lent_mut(&mut self) -> &mut [T] {
         let n = self.lent_len();
         &mut self.items[..n]
@@ -183,6 +184,7 @@ impl<P: Part> Areas<P> {
     }
 
     /// From here on only the first `n` items of a side are lent.
+    // The sides are of four types, so they are no list to index.
     pub(crate) fn lend(&mut self, side: Side, n: usize) {
         match side {
             Side::Universe => self.universe.lent = n,

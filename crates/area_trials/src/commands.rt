@@ -16,7 +16,7 @@ pub(crate) enum Command {
     Universe { place: usize, word: u64 },
     /// A part of the table.
     Table { place: usize, word: u64 },
-    /// The kind of a row's card.
+    /// The kind of a row's card: a number, since a case may write any byte there.
     Kind { place: usize, kind: u8 },
     /// Prints a line.
     Show,

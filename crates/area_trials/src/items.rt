@@ -3,7 +3,7 @@ ghost use Rattle.std.specs.Prelude.{◌≤◌, length};
 
 use std::alloc::{AllocError, Global};
 
-// The digits of a word as one number. It wraps, which `parse` refuses.
+// The digits of a word as one number. By hand, since it wraps, where `parse` fails.
 fn number_of(word: &[u8]) -> Option<u64> {
     word.iter()
         .filter_map(|byte| char::from(*byte).to_digit(10))

@@ -18,7 +18,7 @@ struct Line<'a> {
     len: usize,
 }
 
-// The mark of a value, by whether it is a member.
+// The mark of a value, by whether it is a member. No `From`: which bytes are marks is this format's alone.
 fn value_mark(member: bool) -> u8
     ensures { result ≡ mark member }
 {
@@ -52,6 +52,7 @@ impl Line<'_> {
         requires { self.old.len + 64 ≤ length self.old.bytes.now }
         ensures { Appended (marks P.MOST (P.set whole) (P.set part)) self.old self.new }
     {
+        // Over values, not places: a part has no list of them.
         for v in 0..P::MOST {
             if whole.contains(v) {
                 self.push(value_mark(part.contains(v)));

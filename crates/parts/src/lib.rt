@@ -71,6 +71,7 @@ pub fn word_of<P: Part>(values: P) -> u64
     ensures { result ≡ P.set values }
 {
     let mut word = 0;
+    // Over values, not places: a set has no list of them.
     for v in 0..P::MOST {
         if values.contains(v) {
             word |= 1 << v;

@@ -37,7 +37,7 @@ impl fmt::Display for Flaw<'_> {
     }
 }
 
-// What a hexadecimal digit stands for; capitals are none.
+// What a hexadecimal digit stands for; capitals are none, so no `from_str_radix`.
 fn digit(byte: u8) -> Option<u32>
     ensures { IfSome result (λ d. d < 16) }
 {
