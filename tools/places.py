@@ -3,7 +3,7 @@
 
     tools/places.py [FOLDER] [-v]
 
-Prints, for each of the eight points of docs/DESIGN-PASS.md, how many places its pattern finds; -v prints the places too. A pattern finds more
+Prints, for each of eight patterns of older forms (docs/DESIGN-PASS.md says what each place is), how many places it finds; -v prints the places too. A pattern finds more
 than what is to be changed (a loop over values is no loop over an index), and the page says what each place is.
 """
 import difflib
