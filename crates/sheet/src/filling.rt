@@ -57,15 +57,14 @@ impl Draft {
 
 // Obeys a command, and those after it.
 fn run<P: Part>(
-    stage: Stage,
-    command: Command,
+    mut stage: Stage,
+    mut command: Command,
     areas: &mut Areas<P>,
     progress: &mut Progress<'_>,
 ) -> Result<(), Stop>
     ensures { Ends result progress.new (string_bytes progress.old.lines ++ after_step (λ t. lines_from progress.old.end t progress.old.rest.now) progress.old.at (obeyed (state P.MOST stage (memory P.set areas.old)) command)) }
 {
-    let mut stage = stage;
-    let mut command = command;
+    // No `while let`: a command is obeyed before there is a next one.
     loop {
         let (next, tally) = stage.obey(command, areas)?;
         stage = next;

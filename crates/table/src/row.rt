@@ -16,7 +16,7 @@ use cubes::list::Cubes;
 use faults::Cause;
 use parts::{Part, lies_within, word_of};
 
-// How many cubes of `p` parts an area has, with so many cards or numbers beside them.
+/// How many cubes of `p` parts an area has, with so many cards or numbers beside them.
 pub fn area_length(p: usize, parts: usize, beside: usize) -> usize
     requires { 1 ≤ p }
     ensures { result ≡ area_length p parts beside }
