@@ -1,21 +1,22 @@
 -- Cubes taken one after the other: the cards in the area as the items of the definition.
-use Rattle.std.proofs.Common.{◌≡◌, ℕ, suc, ◌+◌, ◌-◌, ◌<◌, ◌≤◌, true, false, List, ◌∷◌, ◌++◌, length, get_or, take, drop, Some, None, sym, refl, ap, ◌∙◌, subst, arith}
-use Rattle.std.proofs.lemmas.List.{take-take}
+use Rattle.std.proofs.Common.{◌≡◌, ℕ, suc, ◌+◌, ◌-◌, ◌<◌, ◌≤◌, true, false, List, ◌∷◌, ◌++◌, length, get_or, take, drop, Some, None, sym, ap, ◌∙◌, subst, arith}
+use Rattle.std.proofs.lemmas.List.{drop_all, drop-append-le, length-map}
 use Rattle.std.proofs.lemmas.Bool.{not-true}
+use Rattle.cubes.specs.Areas.{overlay}
 use Rattle.cubes.specs.Cubes.{Cube, Cover}
 use Rattle.moves.specs.Calls.{expand}
 use Rattle.moves.specs.Expand.{expanding}
 use Rattle.moves.specs.Items as items
 use Rattle.moves.specs.Items.{Item, no_item, cubes_of, Act, at, taking}
-use Rattle.moves.proofs.Taking.{tally, split, first_found, Less, none_stays, taking-enough}
+use Rattle.moves.proofs.Taking.{tally, length-carded, split, first_found, Less, none_stays, taking-enough}
 use Rattle.orders.specs.Rules.{Rule}
 use Rattle.orders.specs.Bests.{Found}
 use Rattle.orders.specs.Searches as cards
 use Rattle.orders.proofs.Bests.{best_alike}
 use Rattle.table.specs.declared.card.Card.{Card}
 use Rattle.table.specs.Cards.{blank}
-use Rattle.tending.specs.Items.{items_of}
-use Rattle.tending.proofs.Places.{length_items, get_or-items, items_front}
+use Rattle.tending.specs.Items.{items_of, card_of, cards_of}
+use Rattle.tending.proofs.Places.{length_items, get_or-items}
 
 -- the first card not yet taken is that of the first item
 pub first_card : (p n : ℕ) (S : List ℕ) (C : List Card) (B : Rule) → cards.first_of cards.waits B C n ≡ items.first_of items.waits B (items_of p n S C)
@@ -74,6 +75,13 @@ module _ (B : Rule) (act : Act) (less : Less act any) where
 -- where none waits all is done
 pub turned_all : (B : Rule) (act : Act) (n : ℕ) (M L : List Item) → Turned B act n M L → items.first_of items.waits B L ≡ None → L ≡ taking n B act M
 turned_all B act n M L turned f = sym (none_stays B act (tally items.waits L) L f) ∙ turned
+
+-- the cards that a call starts with leave those behind them
+pub started_behind : (n : ℕ) (C : Cover) (K : List Card) → length C ≡ n → drop n (overlay (cards_of (items.started C)) K) ≡ drop n K
+started_behind n C K e =
+    let ys = cards_of (items.started C) in
+    let size : length ys ≡ n = length-map (items.started C) card_of ∙ length-carded C 0 C ∙ e in
+    drop-append-le n ys (drop (length ys) K) (omega arith) ∙ rw (drop_all n ys (omega arith), size)
 
 -- every cube is taken
 pub expand_is : (B : Rule) (U : Cube) (R : Cover) (n : ℕ) (C : Cover) → length C ≡ n → cubes_of (taking n B (expanding U R) (items.started C)) ≡ expand B U R C

@@ -5,7 +5,7 @@ ghost use Rattle.moves.specs.Calls.{expand as expanded_list};
 ghost use Rattle.moves.specs.Expand.{expanding};
 ghost use Rattle.moves.specs.Items.{no_item, waits, first_of};
 ghost use Rattle.moves.specs.Sound.{Apart};
-ghost use Rattle.tending.specs.Solutions.{SameAreas, items, left};
+ghost use Rattle.tending.specs.Solutions.{SameAreas, BehindStays, items, left};
 
 use cubes::list::Cubes;
 use growth::grow::grow;
@@ -24,6 +24,7 @@ fn expand_one<P: Part>(universe: &[P], off: &Cubes<P>, at: usize, solution: &mut
     ensures items { items P.set solution.new ≡ expanding (take solution.old.p (map P.set universe.now)) (sets_of P.set off.now) (take at (items P.set solution.old)) (slice_index_or (items P.set solution.old) at no_item) (drop (suc at) (items P.set solution.old)) }
     ensures apart { Apart (sets_of P.set off.now) (left P.set solution.new) }
     ensures areas { SameAreas solution.old solution.new }
+    ensures behind { BehindStays solution.old solution.new }
 {
     let n = solution.n;
     let cubes = &mut *solution.cubes;
@@ -52,6 +53,7 @@ pub fn expand_cubes<P: Part, O: Order>(
     requires apart { Apart (sets_of P.set off.now) (left P.set solution.old) }
     ensures list { left P.set solution.new ≡ expanded_list (O.before order.now) (take solution.old.p (map P.set universe.now)) (sets_of P.set off.now) (left P.set solution.old) }
     ensures areas { SameAreas solution.old solution.new }
+    ensures behind { BehindStays solution.old solution.new }
 {
     solution.start();
     while let Some(at) = first_left(order, solution) {

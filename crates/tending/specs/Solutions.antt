@@ -1,5 +1,5 @@
 -- Solutions while a call runs. Here s gives the set of a part.
-use Rattle.std.specs.Prelude.{◌≡◌, ℕ, ◌≤◌, List, map, length}
+use Rattle.std.specs.Prelude.{◌≡◌, ℕ, ◌*◌, ◌≤◌, List, map, length, drop}
 use Rattle.cubes.specs.Areas.{cubes, cube_at}
 use Rattle.cubes.specs.Cubes.{Cube, Cover}
 use Rattle.moves.specs.Items.{Item}
@@ -25,3 +25,8 @@ pub record SameAreas {X : Type 0} (S T : Solution X) : Type 0 where
   pub length : length T.cards.now ≡ length S.cards.now
   pub p : T.p ≡ S.p
   pub fewer : T.n ≤ S.n
+
+-- what a step leaves alone: the parts behind the cubes that were left, and the cards behind theirs
+pub record BehindStays {X : Type 0} (S T : Solution X) : Type 0 where
+  pub cubes : drop (S.n * S.p) T.cubes.now ≡ drop (S.n * S.p) S.cubes.now
+  pub cards : drop S.n T.cards.now ≡ drop S.n S.cards.now

@@ -3,7 +3,7 @@ ghost use Rattle.std.specs.Prelude.{◌≡◌, suc, ◌-◌, ◌<◌, ◌++◌, 
 ghost use Rattle.cubes.specs.Cubes.{covers as covers_all};
 ghost use Rattle.moves.specs.Items.{no_item};
 ghost use Rattle.tending.specs.Items.{spared_but, only_at};
-ghost use Rattle.tending.specs.Solutions.{SameAreas, items, cube_left};
+ghost use Rattle.tending.specs.Solutions.{SameAreas, BehindStays, items, cube_left};
 
 use crate::solution::Solution;
 use cubes::cube::covers;
@@ -17,6 +17,7 @@ impl<P: Part> Solution<'_, P> {
         ensures items { items P.set self.new ≡ edited (items P.set self.old) to (slice_index_or (items P.set self.old) from no_item) }
         ensures n { self.new.n ≡ self.old.n }
         ensures areas { SameAreas self.old self.new }
+        ensures behind { BehindStays self.old self.new }
     {
         let p = self.p;
         let cubes = &mut *self.cubes;
@@ -30,6 +31,7 @@ impl<P: Part> Solution<'_, P> {
         ensures items { items P.set self.new ≡ take i (items P.set self.old) ++ drop (suc i) (items P.set self.old) }
         ensures n { self.new.n ≡ self.old.n - 1 }
         ensures areas { SameAreas self.old self.new }
+        ensures behind { BehindStays self.old self.new }
     {
         let (p, n) = (self.p, self.n);
         let cubes = &mut *self.cubes;
@@ -45,6 +47,7 @@ impl<P: Part> Solution<'_, P> {
         requires { at < self.old.n }
         ensures items { items P.set self.new ≡ spared_but (cube_left P.set at self.old) at (items P.set self.old) }
         ensures areas { SameAreas self.old self.new }
+        ensures behind { BehindStays self.old self.new }
     {
         let mut k = 0;
         let mut lead = at;
@@ -75,6 +78,7 @@ impl<P: Part> Solution<'_, P> {
         requires { at < self.old.n }
         ensures items { items P.set self.new ≡ only_at at (items P.set self.old) }
         ensures areas { SameAreas self.old self.new }
+        ensures behind { BehindStays self.old self.new }
     {
         self.cards[at].taken = true;
         self.close_up(at);

@@ -1,4 +1,4 @@
-use Rattle.std.proofs.Common.{◌≡◌, suc, ◌≤◌, map, take, drop, get_or, Some, None, sym, ap, ◌∙◌, subst, arith}
+use Rattle.std.proofs.Common.{◌≡◌, suc, ◌*◌, ◌≤◌, map, take, drop, get_or, Some, None, sym, ap, ◌∙◌, subst, arith}
 use Rattle.cubes.specs.Lists.{sets_of}
 use Rattle.cubes.proofs.Areas.{length-cubes}
 use Rattle.moves.specs.Expand.{expanding}
@@ -8,8 +8,8 @@ use Rattle.moves.proofs.Expanded.{expanding_less}
 use Rattle.moves.proofs.Taking.{tally, cubes-carded, waits-started}
 use Rattle.tending.specs.Solutions.{items, left}
 use Rattle.tending.proofs.Places.{length_items, cubes_items}
-use Rattle.tending.proofs.Steps.{both_steps}
-use Rattle.engine.proofs.Turns.{any, turned_none, turned_some, turned_all, in_list, fewer_wait, expand_is}
+use Rattle.tending.proofs.Steps.{both_steps, both_behind}
+use Rattle.engine.proofs.Turns.{any, turned_none, turned_some, turned_all, in_list, fewer_wait, started_behind, expand_is}
 use Rattle.engine.proofs.expand.expand_cubes.Goals as goal
 
 pub loop-at-init : goal.loop-at-init
@@ -26,6 +26,10 @@ loop-at-init g c =
       turned = rw c.start.ensures.items (turned_none (g.O.Order.before c.args.order.now) (expanding U R) (expanding_less U R any) V.n (started C) most);
       apart = subst (Apart R) (sym same) c.requires.apart;
       areas = c.start.ensures.areas;
+      behind = record {
+        cubes = ap (drop (V.n * V.p)) c.start.ensures.cubes;
+        cards = ap (drop V.n) c.start.ensures.cards ∙ started_behind V.n C V.cards.now (length-cubes V.p V.n (map s V.cubes.now));
+      };
     }
 
 pub expand_one-requires-clause-place : goal.expand_one-requires-clause-place
@@ -68,6 +72,7 @@ loop-at-preserved g c =
       turned = turned_some B (expanding U R) (expanding_less U R any) L at (items s W) first made F.n (started (left s F)) inv.turned;
       apart = c.expand_one.ensures.apart;
       areas = both_steps F V W inv.areas c.expand_one.ensures.areas;
+      behind = both_behind F V W inv.areas inv.behind c.expand_one.ensures.behind;
     }
 
 pub returns-clause-list : goal.returns-clause-list

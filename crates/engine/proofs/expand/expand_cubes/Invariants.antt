@@ -4,7 +4,7 @@ use Rattle.moves.specs.Expand.{expanding}
 use Rattle.moves.specs.Items.{started, waits}
 use Rattle.moves.specs.Sound.{Apart}
 use Rattle.moves.proofs.Taking.{tally}
-use Rattle.tending.specs.Solutions.{SameAreas, items, left}
+use Rattle.tending.specs.Solutions.{SameAreas, BehindStays, items, left}
 use Rattle.engine.proofs.Turns.{Turned}
 use Rattle.engine.proofs.expand.expand_cubes.Given as goal
 
@@ -18,6 +18,7 @@ invariant-loop-at g l =
       turned : Turned (g.O.Order.before l.order) (expanding U R) V.n (started (left s V)) (items s l.solution);
       apart : Apart R (left s l.solution);
       areas : SameAreas V l.solution;
+      behind : BehindStays V l.solution;
     }
 
 abbrev pub decreases-loop-at : goal.decreases-loop-at

@@ -1,4 +1,4 @@
-use Rattle.std.proofs.Common.{◌≡◌, ◌*◌, ◌<◌, ◌≤◌, false, map, length, take, drop, suc, get_or, sym, ap, ◌∙◌, subst, arith}
+use Rattle.std.proofs.Common.{◌≡◌, ◌+◌, ◌*◌, ◌<◌, ◌≤◌, false, map, length, take, drop, suc, get_or, sym, ap, ◌∙◌, subst, arith}
 use Rattle.std.proofs.lemmas.List.{length-map}
 use Rattle.cubes.specs.Areas.{cube_at, cubes, put_at}
 use Rattle.cubes.specs.Lists.{sets_of}
@@ -12,6 +12,7 @@ use Rattle.moves.specs.Widen.{touches}
 use Rattle.tending.specs.Items.{items_of, only_at}
 use Rattle.tending.specs.Solutions.{items, left}
 use Rattle.tending.proofs.Places.{places_within, cubes_items}
+use Rattle.tending.proofs.Steps.{stays_behind}
 use Rattle.engine.proofs.Grown.{apart-at, grown_items, grown-apart}
 use Rattle.engine.proofs.expand.expand_one.Goals as goal
 
@@ -49,8 +50,11 @@ returns g c =
     let all : items s W ≡ expanding U R (take at L) (get_or L at no_item) (drop (suc at) L) =
     c.remove_covered.ensures.items ∙ ap (λ Y. only_at at (items_of p n Y K)) set ∙ grown_items p n S K fits V.within U R at c.requires.place wR t size in
     let a = c.remove_covered.ensures.areas in
+    let b = c.remove_covered.ensures.behind in
+    let grown_stays : drop (at * p + p) c.grow.new.solution ≡ drop (at * p + p) V.cubes.now = subst (λ m. drop (at * m + m) c.grow.new.solution ≡ drop (at * m + m) V.cubes.now) c.requires.wide c.grow.ensures.behind in
     record {
       items = all;
       apart = subst (Apart R) (sym (sym (cubes_items W.p W.n (map s W.cubes.now) W.cards.now) ∙ ap cubes_of all)) (grown-apart p n S K fits V.within U R at c.requires.place wR c.requires.apart);
       areas = record { cubes = a.cubes; cards = a.cards; length = a.length; p = a.p; fewer = a.fewer };
+      behind = record { cubes = b.cubes ∙ stays_behind (at * p + p) (n * p) c.grow.new.solution V.cubes.now below grown_stays; cards = b.cards };
     }

@@ -6,7 +6,7 @@ use Rattle.tending.specs.Items.{stays, spared_but}
 use Rattle.tending.specs.Solutions.{items, cube_left}
 use Rattle.tending.proofs.Places.{length_items, get_or-items, take_items}
 use Rattle.tending.proofs.Closing.{stays_here, stays_free, goes, Leads, kept_more, kept_less, leads_moved, leads_more, leads_less}
-use Rattle.tending.proofs.Steps.{no_step, both_steps}
+use Rattle.tending.proofs.Steps.{no_step, both_steps, no_behind, both_behind}
 use Rattle.tending.proofs.solution.Solution.close_up.Goals as goal
 use Rattle.tending.proofs.solution.Solution.close_up.Goals.{then-i-at, then-i-at-via-then-i-at, then-i-at-via-else-i-at+then-not-covers, then-i-at-2, else-i-at-2, else-i-at+else-not-covers}
 
@@ -16,6 +16,7 @@ loop-i-init g c =
     let s = g.P.Part.set in
     record {
       areas = no_step S;
+      behind = no_behind S;
       n = refl;
       kept = (refl, refl, omega arith);
       leads = (inl (omega arith, refl), ap (λ (x : Item). x.cube) (get_or-items S.p S.n c.args.at (map s S.cubes.now) S.cards.now c.requires), omega (arith, length_items S.p S.n (map s S.cubes.now) S.cards.now));
@@ -55,6 +56,7 @@ loop-i-preserved g c =
           ] in
           rw (w.self-is, w.k-is, w.lead-is) (record {
             areas = both_steps S N w.move_item.new.self inv.areas w.move_item.ensures.areas;
+            behind = both_behind S N w.move_item.new.self inv.areas inv.behind w.move_item.ensures.behind;
             n = w.move_item.ensures.n ∙ inv.n;
             kept = rw w.move_item.ensures.items (kept_more G at L M k i in_L in-M inv.kept t);
             leads = rw w.move_item.ensures.items leads;
@@ -63,6 +65,7 @@ loop-i-preserved g c =
           let t : stays G at i x.cube ≡ false = goes G at i x.cube w.if-i-at.false (sym test ∙ sym w.covers.ensures ∙ w.if-not-covers.false) in
           rw (w.self-is, w.k-is, w.lead-is) (record {
             areas = inv.areas;
+            behind = inv.behind;
             n = inv.n;
             kept = kept_less G at L M k i in_L in-M inv.kept t;
             leads = leads_less G at M lead k i inv.kept.2 in-M inv.leads w.if-i-at.false;

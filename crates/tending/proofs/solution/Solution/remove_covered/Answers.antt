@@ -1,5 +1,5 @@
 use Rattle.std.proofs.Common.{◌≡◌, ◌*◌, ◌<◌, ◌≤◌, map, length, get_or, set, sym, ap, ◌∙◌, ap₂, arith}
-use Rattle.std.proofs.lemmas.List.{length-map, length-set}
+use Rattle.std.proofs.lemmas.List.{length-map, length-set, drop-set-lt}
 use Rattle.cubes.specs.Cubes.{Cube}
 use Rattle.cubes.specs.Areas.{cube_at}
 use Rattle.moves.specs.Items.{Item, no_item, placed}
@@ -27,7 +27,9 @@ returns g c =
     let card : item_of (cube_at p at S) k ≡ placed f f.cube = ap (λ (x : Item). placed x x.cube) (sym is) in
     let marked : items_of p n S (set C at k) ≡ set L at (placed f f.cube) = items_card p n S C fits V.within at c.requires k ∙ ap (set L at) card in
     let a = c.close_up.ensures.areas in
+    let b = c.close_up.ensures.behind in
     record {
       items = c.close_up.ensures.items ∙ ap₂ (λ (G : Cube) (M : _). spared_but G at M) cube marked ∙ marked_only at L in_L;
       areas = record { cubes = a.cubes; cards = a.cards; length = a.length ∙ length-set C at k; p = a.p; fewer = a.fewer };
+      behind = record { cubes = b.cubes; cards = b.cards ∙ drop-set-lt n C at k c.requires };
     }
