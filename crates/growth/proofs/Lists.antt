@@ -1,18 +1,18 @@
 -- Lists of cubes, read cube by cube.
-use Rattle.std.proofs.Common.{◌≡◌, ℕ, ◌+◌, ◌<◌, List, [], ◌∷◌, ◌++◌, map, length, get_or, Some, None, Option, Bor, refl, ap, ◌∙◌, arith}
+use Rattle.std.proofs.Common.{◌≡◌, ℕ, ◌+◌, ◌<◌, ◌≤◌, List, [], ◌∷◌, ◌++◌, map, length, get_or, drop, Some, None, Option, Bor, refl, sym, ap, ◌∙◌, arith}
 use Rattle.std.specs.List.{zip, enumerate_from}
 use Rattle.std.proofs.lemmas.List.FromFn.{length-enumerate_from, get_or-enumerate_from}
 use Rattle.std.proofs.lemmas.Slice.Zip.{length-zip, get_or-zip}
 use Rattle.std.specs.Iterator.{Yields, YieldsFirstRef}
 use Rattle.std.proofs.lemmas.Iterator.{YieldsList}
 use Rattle.std.proofs.lemmas.Iterator.Consumers.{YieldsList-from_first, YieldsList-turn, YieldsList-end}
-use Rattle.std.proofs.lemmas.List.{map-append, get_or_default}
+use Rattle.std.proofs.lemmas.List.{length-drop, drop_more, map-append, get_or_default}
 use Rattle.cubes.specs.declared.list.Cubes.{Cubes}
 use Rattle.cubes.specs.declared.list.CubesIter.{CubesIter}
 use Rattle.cubes.specs.Areas.{cubes, cube_at}
 use Rattle.cubes.specs.Cubes.{Cover}
 use Rattle.cubes.specs.Lists.{sets_of}
-use Rattle.cubes.proofs.Areas.{length-cubes, get_or-cubes, length-cube_at, place_below}
+use Rattle.cubes.proofs.Areas.{length-cubes, get_or-cubes, length-cube_at, map-cube_at, place_below}
 use Rattle.cubes.proofs.Flat.{map-cubes}
 
 -- the sets of the cubes that were read
@@ -55,6 +55,31 @@ module _ {X : Type 0} (l : Cubes X) (i : CubesIter X) (start : left i ≡ cubes 
   all_read s rs j y o k e t =
       let h = YieldsList-end road rs j y o k e t in
       sets-now s rs ∙ ap (map (map s)) h.0 ∙ map-cubes s l.p l.n l.parts.now
+
+-- ---- the cubes by number: from place i on the cube c is next, and E is left behind it
+
+module _ {X : Type 0} (l : Cubes X) (i : ℕ) (c : List X) (E : List (List X)) (next : drop i (cubes l.p l.n l.parts.now) ≡ c ∷ E) where
+  pub below : i < l.n
+  below = omega (arith, length-drop i (cubes l.p l.n l.parts.now), length-cubes l.p l.n l.parts.now, ap length next)
+
+  both : get_or (cubes l.p l.n l.parts.now) i [] ∷ drop (i + 1) (cubes l.p l.n l.parts.now) ≡ c ∷ E
+  both = let h : i < length (cubes l.p l.n l.parts.now) = omega (arith, below, length-cubes l.p l.n l.parts.now) in sym (drop_more (cubes l.p l.n l.parts.now) i [] h) ∙ next
+
+  cube_is : c ≡ cube_at l.p i l.parts.now
+  cube_is = let h = both in let e : c ≡ get_or (cubes l.p l.n l.parts.now) i [] = cc in e ∙ get_or-cubes l.p l.n i l.parts.now below
+
+  pub left_is : E ≡ drop (i + 1) (cubes l.p l.n l.parts.now)
+  left_is = let h = both in cc
+
+  pub width_is : length c ≡ l.p
+  width_is = ap length cube_is ∙ length-cube_at l.p i l.parts.now (omega (arith, l.fits, place_below i l.n l.p below))
+
+  pub sets_is : (s : X → ℕ) → map s c ≡ cube_at l.p i (map s l.parts.now)
+  sets_is s = ap (map s) cube_is ∙ map-cube_at s l.p i l.parts.now
+
+-- none is left
+pub none_left : {X : Type 0} (l : Cubes X) (i : ℕ) → drop i (cubes l.p l.n l.parts.now) ≡ [] → l.n ≤ i
+none_left l i e = omega (arith, length-drop i (cubes l.p l.n l.parts.now), length-cubes l.p l.n l.parts.now, ap length e)
 
 -- ---- two slices side by side, with the number of each pair
 

@@ -43,9 +43,7 @@ pub fn part_weights<P: Part>(over: &[Word], at: usize, solution: &Cubes<P>, weig
 {
     weights.fill(0);
     let f = solution.cube(at);
-    // By place: `enumerate` wants the number of cubes to fit in a word, which only `len` shows.
-    for i in 0..solution.len() {
-        let cube = solution.cube(i);
+    for (i, cube) in solution.iter().enumerate() {
         if i != at && within_words(cube, over) {
             add_weights(cube, f, weights);
         }
