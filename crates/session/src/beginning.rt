@@ -14,8 +14,6 @@ pub fn begin<P: Part>(p: usize, sizes: &[usize; 16], universe: &mut [P]) -> Resu
     ensures sets { map P.set universe.new ≡ (begun P.MOST p sizes.now (map P.set universe.old)).universe }
     ensures stays { drop (if is_ok result then p else 0) universe.new ≡ drop (if is_ok result then p else 0) universe.old }
 {
-    match begin_universe(p, sizes, universe) {
-        Ok(()) => Ok(Table { p, rows: 0 }),
-        Err(cause) => Err(cause.by(Layer::Table)),
-    }
+    begin_universe(p, sizes, universe).map_err(|cause| cause.by(Layer::Table))?;
+    Ok(Table { p, rows: 0 })
 }

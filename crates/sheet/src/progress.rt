@@ -43,13 +43,10 @@ impl<'a> Progress<'a> {
         ensures shorter { IfOk result (λ o. IfSome o (λ _. length self.new.rest.now < length self.old.rest.now)) }
     {
         self.at = self.end - self.rest.len();
-        match read(self.rest) {
-            Ok(None) => Ok(None),
-            Ok(Some((command, rest))) => {
-                self.rest = rest;
-                Ok(Some(command))
-            }
-            Err(cause) => Err(cause.by(Layer::Sheet)),
-        }
+        let Some((command, rest)) = read(self.rest).map_err(|cause| cause.by(Layer::Sheet))? else {
+            return Ok(None);
+        };
+        self.rest = rest;
+        Ok(Some(command))
     }
 }

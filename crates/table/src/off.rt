@@ -67,8 +67,5 @@ pub fn off_list<P: Part>(
     let most = OFF_MOST.min(off.len() / p);
     let work = &mut work[..has * p];
     let numbers = &mut numbers[..has];
-    match off_within(universe, rows, off, most, work, numbers) {
-        Ok(count) => Ok(count),
-        Err(TooMany) => Err(Cause::Off { most }),
-    }
+    off_within(universe, rows, off, most, work, numbers).map_err(|_| Cause::Off { most })
 }
