@@ -18,7 +18,7 @@ use table::row::area_length;
 use tending::solution::Solution;
 
 // Expand on areas that were checked: those of the solution and its cards have just its length.
-// They come whole: of slices that a solution was made of parts of, a proof knows nothing afterwards.
+// The slices come cut to that length: of longer ones, of which a solution borrows the front, a proof knows nothing afterwards.
 fn expand_areas<P: Part, O: Order>(
     p: usize,
     offs: usize,

@@ -9,6 +9,7 @@ use parts::Part;
 use table::begin::begin_universe;
 
 /// Writes the universe (area 1) from its number of parts and their sizes, and begins a table with no row. Refuses `shape` and `area`.
+// Sixteen sizes of which the first `p` count, so that a caller needs no heap.
 pub fn begin<P: Part>(p: usize, sizes: &[usize; 16], universe: &mut [P]) -> Result<Table, Fault>
     ensures answer { begun_answer result ≡ (begun P.MOST p sizes.now (map P.set universe.old)).answer }
     ensures sets { map P.set universe.new ≡ (begun P.MOST p sizes.now (map P.set universe.old)).universe }

@@ -19,6 +19,7 @@ pub fn check_area(area: usize, has: usize, needed: usize) -> Result<(), Cause>
 }
 
 /// Whether the number of parts is 1 to 16, and the size of each of them 1 to the kind's most.
+// Sizes and their number as `session::begin` takes them.
 pub fn check_shape<P: Part>(p: usize, sizes: &[usize; 16]) -> Result<(), Cause>
     ensures { result ≡ shape_verdict P.MOST p sizes.now }
 {

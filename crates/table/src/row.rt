@@ -101,7 +101,7 @@ fn check_full(rows: usize, has: usize) -> Result<(), Cause>
     Ok(())
 }
 
-// The areas first; then all parts of the row for a value, then for one that the universe lacks, then the earlier rows, then the room.
+// The areas, as `session::add` takes them, first; then all parts of the row for a value, then for one that the universe lacks, then the earlier rows, then the room.
 fn check_add<P: Part>(
     p: usize,
     rows: usize,

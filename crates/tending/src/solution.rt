@@ -6,7 +6,8 @@ use parts::Part;
 use table::card::Card;
 
 /// The cubes of a solution, each of `p` parts, with a card beside each: the first `n` are left.
-// Parts and cards lie apart, since the caller lends them as two areas.
+// Parts and cards lie apart, since the caller lends them as two areas. A method that changes one lends it on by its own name first
+// (`&mut *self.cubes`): so a proof follows what it holds.
 #[derive(Drop)]
 pub struct Solution<'a, P> {
     pub cubes: &'a mut [P],
