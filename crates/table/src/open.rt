@@ -29,6 +29,7 @@ pub fn copy_on_rows<P: Part>(rows: &Rows<P>, solution: &mut [P], notes: &mut [Ca
 {
     let p = rows.cubes.width();
     let mut on = 0;
+    // on is counted by hand: over zip, filter and enumerate the check found no type for the loop's iterator, and no proof closed.
     for (cube, card) in rows.cubes.iter().zip(rows.cards) {
         if card.is_on() {
             copy_cube(solution, on, p, cube);
