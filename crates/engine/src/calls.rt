@@ -17,8 +17,8 @@ use table::card::Card;
 use table::row::area_length;
 use tending::solution::Solution;
 
-// Expand on areas that were checked: those of the solution and its cards have just its length.
-// The slices come cut to that length: of longer ones, of which a solution borrows the front, a proof knows nothing afterwards.
+// Expand on areas that were checked. Those of the solution and its cards come cut to its length: had they been cut in here, a proof would
+// know nothing of them afterwards.
 fn expand_areas<P: Part, O: Order>(
     p: usize,
     offs: usize,
