@@ -7,3 +7,4 @@ pub mod Flat
 pub mod Apart
 mod Worked
 pub mod Proved
+pub mod Reading

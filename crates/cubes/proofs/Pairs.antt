@@ -1,11 +1,10 @@
 -- One step of a walk over two cubes.
-use Rattle.std.proofs.Common.{◌≡◌, ℕ, ◌+◌, ◌<◌, ◌≤◌, min, Bool, true, false, ◌&&◌, eqb, List, [], ◌∷◌, map, length, get_or, drop, sym, refl, ap, ◌∙◌, ⊎_elim, arith}
-use lib.Bits.{bit_and, and_self}
+use Rattle.std.proofs.Common.{◌≡◌, ℕ, ◌+◌, ◌<◌, ◌≤◌, Bool, true, false, ◌&&◌, eqb, List, [], ◌∷◌, map, length, get_or, drop, sym, refl, ap, ◌∙◌, arith}
+use lib.Bits.{bit_and}
 use Rattle.std.proofs.lemmas.List.{get_or-map, drop_more, length-map, drop_all}
-use Rattle.std.proofs.lemmas.Bool.{cases_lt, and_right, eqb-true, eqb-false, eq-eqb, ne_eqb}
+use Rattle.std.proofs.lemmas.Bool.{and_right}
 use Rattle.std.specs.List.{list_all, zip}
 use Rattle.parts.specs.Sets.{minus, some}
-use Rattle.parts.proofs.Bits.{same-minus}
 use Rattle.cubes.specs.Cubes.{same, covers, meets}
 
 -- what was read, as a set

@@ -1,12 +1,12 @@
 -- Lists of cubes, read cube by cube.
-use Rattle.std.proofs.Common.{◌≡◌, ℕ, ◌+◌, ◌<◌, ◌≤◌, List, [], ◌∷◌, ◌++◌, map, length, get_or, drop, Some, None, Option, Bor, refl, sym, ap, ◌∙◌, arith}
+use Rattle.std.proofs.Common.{◌≡◌, ℕ, ◌+◌, ◌<◌, List, [], ◌∷◌, ◌++◌, map, length, get_or, drop, Some, None, Option, Bor, refl, sym, ap, ◌∙◌, arith}
 use Rattle.std.specs.List.{zip, enumerate_from}
 use Rattle.std.proofs.lemmas.List.FromFn.{length-enumerate_from, get_or-enumerate_from}
 use Rattle.std.proofs.lemmas.Slice.Zip.{length-zip, get_or-zip}
 use Rattle.std.specs.Iterator.{Yields, YieldsFirstRef}
 use Rattle.std.proofs.lemmas.Iterator.{YieldsList}
 use Rattle.std.proofs.lemmas.Iterator.Consumers.{YieldsList-from_first, YieldsList-turn, YieldsList-end}
-use Rattle.std.proofs.lemmas.List.{length-drop, drop_more, map-append, get_or_default}
+use Rattle.std.proofs.lemmas.List.{map-append, get_or_default}
 use Rattle.cubes.specs.declared.list.Cubes.{Cubes}
 use Rattle.cubes.specs.declared.list.CubesIter.{CubesIter}
 use Rattle.cubes.specs.Areas.{cubes, cube_at}
@@ -14,6 +14,7 @@ use Rattle.cubes.specs.Cubes.{Cover}
 use Rattle.cubes.specs.Lists.{sets_of}
 use Rattle.cubes.proofs.Areas.{length-cubes, get_or-cubes, length-cube_at, map-cube_at, place_below}
 use Rattle.cubes.proofs.Flat.{map-cubes}
+use Rattle.cubes.proofs.Reading.{below, cube_is}
 
 -- the sets of the cubes that were read
 abbrev pub sets_read : {X : Type 0} → (X → ℕ) → List (Bor (List X)) → Cover
@@ -56,30 +57,17 @@ module _ {X : Type 0} (l : Cubes X) (i : CubesIter X) (start : left i ≡ cubes 
       let h = YieldsList-end road rs j y o k e t in
       sets-now s rs ∙ ap (map (map s)) h.0 ∙ map-cubes s l.p l.n l.parts.now
 
--- ---- the cubes by number: from place i on the cube c is next, and E is left behind it
+-- ---- the cubes by number: from place i on the cube c is next
 
 module _ {X : Type 0} (l : Cubes X) (i : ℕ) (c : List X) (E : List (List X)) (next : drop i (cubes l.p l.n l.parts.now) ≡ c ∷ E) where
-  pub below : i < l.n
-  below = omega (arith, length-drop i (cubes l.p l.n l.parts.now), length-cubes l.p l.n l.parts.now, ap length next)
-
-  both : get_or (cubes l.p l.n l.parts.now) i [] ∷ drop (i + 1) (cubes l.p l.n l.parts.now) ≡ c ∷ E
-  both = let h : i < length (cubes l.p l.n l.parts.now) = omega (arith, below, length-cubes l.p l.n l.parts.now) in sym (drop_more (cubes l.p l.n l.parts.now) i [] h) ∙ next
-
-  cube_is : c ≡ cube_at l.p i l.parts.now
-  cube_is = let h = both in let e : c ≡ get_or (cubes l.p l.n l.parts.now) i [] = cc in e ∙ get_or-cubes l.p l.n i l.parts.now below
-
-  pub left_is : E ≡ drop (i + 1) (cubes l.p l.n l.parts.now)
-  left_is = let h = both in cc
+  here : cube_at l.p i l.parts.now ≡ c
+  here = cube_is l.p l.n l.parts.now i c E next
 
   pub width_is : length c ≡ l.p
-  width_is = ap length cube_is ∙ length-cube_at l.p i l.parts.now (omega (arith, l.fits, place_below i l.n l.p below))
+  width_is = ap length (sym here) ∙ length-cube_at l.p i l.parts.now (omega (arith, l.fits, place_below i l.n l.p (below l.p l.n l.parts.now i c E next)))
 
-  pub sets_is : (s : X → ℕ) → map s c ≡ cube_at l.p i (map s l.parts.now)
-  sets_is s = ap (map s) cube_is ∙ map-cube_at s l.p i l.parts.now
-
--- none is left
-pub none_left : {X : Type 0} (l : Cubes X) (i : ℕ) → drop i (cubes l.p l.n l.parts.now) ≡ [] → l.n ≤ i
-none_left l i e = omega (arith, length-drop i (cubes l.p l.n l.parts.now), length-cubes l.p l.n l.parts.now, ap length e)
+  pub sets_at : (s : X → ℕ) → map s c ≡ cube_at l.p i (map s l.parts.now)
+  sets_at s = ap (map s) (sym here) ∙ map-cube_at s l.p i l.parts.now
 
 -- ---- two slices side by side, with the number of each pair
 

@@ -1,6 +1,6 @@
 -- The walk of Open: where it starts, and the part of the work area that it is lent.
 use Rattle.std.proofs.Common.{◌≡◌, ℕ, ◌+◌, ◌-◌, ◌*◌, ◌/◌, ◌≤◌, min, List, ◌++◌, map, length, take, drop, replicate, sym, ap, ◌∙◌, mul-le-mul_right, add-mul, one-mul, le-div_iff_mul-le, arith}
-use Rattle.std.proofs.lemmas.List.{length-map, length-replicate, map-append, drop-map, drop_at, take-map, length-take-le}
+use Rattle.std.proofs.lemmas.List.{length-map, length-replicate, map-append, drop-map, take-map, length-take-le}
 use Rattle.cubes.specs.Areas.{cube_at, put_at, overlay}
 use Rattle.cubes.proofs.Areas.{map-put, cube_at-put}
 use Rattle.table.specs.Cards.{area_length}

@@ -14,7 +14,7 @@ use Rattle.table.specs.Cards.{area_length, rows_of, is_on, blank}
 use Rattle.std.proofs.lemmas.List.{drop_more, drop_all, get_or-take, length-take, length-map, get_or-map, get_or_default, map_more, set_at, append_assoc, drop-drop, get_or-drop}
 use Rattle.faults.specs.declared.Cause.{Cause}
 use Rattle.faults.specs.declared.Cause.TheVariants.{Shape, Area, Empty, Outside, Repeat, Full}
-use Rattle.std.proofs.lemmas.Bool.{le-ltb, ltb-false}
+use Rattle.std.proofs.lemmas.Bool.{ltb-false}
 use Rattle.std.proofs.lemmas.Bool.Decides.{nat_tests}
 use Rattle.table.specs.Filling.{Verdict, ◌then◌, area_verdict, sizes_verdict, shape_verdict, universe_of, empty_verdict, outside_verdict, repeat_verdict, full_verdict, add_verdict}
 

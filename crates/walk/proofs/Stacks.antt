@@ -1,5 +1,5 @@
 -- The stack in an area: what a write leaves of it.
-use Rattle.std.proofs.Common.{◌≡◌, ℕ, zero, suc, ◌+◌, ◌-◌, ◌*◌, ◌<◌, ◌≤◌, Bool, true, false, cond, not, eqb, List, [], ◌∷◌, ◌++◌, map, length, get_or, take, drop, set, sym, refl, ap, ◌∙◌, mul-le-mul_right, add-mul, add-one, arith}
+use Rattle.std.proofs.Common.{◌≡◌, ℕ, zero, suc, ◌+◌, ◌-◌, ◌*◌, ◌<◌, ◌≤◌, Bool, true, cond, not, eqb, List, [], ◌∷◌, ◌++◌, map, length, get_or, take, drop, set, sym, refl, ap, ◌∙◌, mul-le-mul_right, add-mul, add-one, arith}
 use Rattle.std.proofs.lemmas.List.{append_assoc, get_or-take, get_or-drop, take-take, take-set-le, get_or-set_same}
 use Rattle.parts.specs.Sets.{minus, some}
 use Rattle.cubes.specs.Areas.{cube_at, put_at}

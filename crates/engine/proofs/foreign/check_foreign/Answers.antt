@@ -3,7 +3,7 @@ use Rattle.cubes.specs.Lists.{sets_of}
 use Rattle.cubes.proofs.Areas.{length-cubes}
 use Rattle.engine.specs.Foreign.{first_met, foreign_verdict}
 use Rattle.engine.proofs.Meetings.{foreign_here, foreign_later, foreign_none, none_foreign}
-use Rattle.tending.proofs.Lists.{below, left_is, sets_is, read_all}
+use Rattle.cubes.proofs.Reading.{below, left_is, sets_is, read_all}
 use Rattle.engine.proofs.foreign.check_foreign.Goals as goal
 
 pub returns-in-Some-first_met : goal.returns-in-Some-first_met

@@ -4,9 +4,10 @@ use Rattle.parts.specs.Models.{word_set}
 use Rattle.cubes.specs.Areas.{cubes, cube_at}
 use Rattle.cubes.specs.Cubes.{covers}
 use Rattle.cubes.proofs.Areas.{map-cube_at}
+use Rattle.cubes.proofs.Reading.{below, left_is, read_all}
 use Rattle.moves.specs.Expand.{part_weight}
 use Rattle.growth.specs.Others.{others}
-use Rattle.growth.proofs.Lists.{below, left_is, width_is, sets_is, none_left}
+use Rattle.growth.proofs.Lists.{width_is, sets_at}
 use Rattle.growth.proofs.Weighed.{adds, around_le, around-itself, around_more}
 use Rattle.growth.proofs.weigh.part_weights.Goals as goal
 use Rattle.growth.proofs.weigh.part_weights.Goals.{then-i-at+then-within_words, else-i-at, else-i-at-via-then-i-at+else-within_words, else-i-at-via-else-i-at}
@@ -21,7 +22,8 @@ add_weights-requires-clause-room g c =
     let p = c.args.solution.now.p in
     let X = map s c.args.solution.now.parts.now in
     let i = c.loop-i.i in
-    let here = below c.args.solution.now i c.in-Some.cube.now _ (sym c.loop-i.invariant.left ∙ c.in-Some.ensures.steps) in
+    let L = c.args.solution.now in
+    let here = below p L.n L.parts.now i c.in-Some.cube.now _ (sym c.loop-i.invariant.left ∙ c.in-Some.ensures.steps) in
     λ k h.
     let l : k < p = omega (arith, c.loop-i.auto.weights, c.fill.ensures.len, c.requires.size) in
     omega (arith, here, c.args.solution.now.counted, c.loop-i.invariant.weighed k l, around_le p c.args.at i k (map word_set c.args.over.now) (cube_at p c.args.at X) X)
@@ -38,12 +40,12 @@ loop-i-preserved g c =
     let F = cube_at p at X in
     let C = cube_at p i X in
     let next = sym c.loop-i.invariant.left ∙ c.in-Some.ensures.steps in
-    let here = below l i c.in-Some.cube.now _ next in
-    let cube : map s c.in-Some.cube.now ≡ C = sets_is l i c.in-Some.cube.now _ next s in
+    let here = below p l.n l.parts.now i c.in-Some.cube.now _ next in
+    let cube : map s c.in-Some.cube.now ≡ C = sets_at l i c.in-Some.cube.now _ next s in
     let f : map s c.cube-f.result.now ≡ F = ap (map s) c.cube-f.ensures ∙ map-cube_at s p at l.parts.now in
     record {
       few = omega (arith, here);
-      left = left_is l i c.in-Some.cube.now _ next;
+      left = sym (left_is p l.n l.parts.now i c.in-Some.cube.now _ next);
       weighed = elim c.if-i-at.branch [
         | then-i-at+then-within_words w ↦ λ k h.
             let within : covers O C ≡ true = ap (covers O) (sym cube) ∙ sym w.within_words.ensures ∙ w.if-within_words.true in
@@ -68,6 +70,6 @@ returns g c =
     let s = g.P.Part.set in
     let l = c.args.solution.now in
     let X = map s l.parts.now in
-    let end = none_left l c.loop-i.i (sym c.loop-i.invariant.left ∙ c.in-None.ensures.steps.0) in
+    let end = read_all l.p l.n l.parts.now c.loop-i.i (sym c.loop-i.invariant.left ∙ c.in-None.ensures.steps.0) in
     let all : c.loop-i.i ≡ l.n = omega (arith, end, c.loop-i.invariant.few) in
     λ k h. c.loop-i.invariant.weighed k h ∙ ap (λ n. part_weight (map word_set c.args.over.now) (cube_at l.p c.args.at X) (others c.args.at (cubes l.p n X)) k) all

@@ -1,6 +1,6 @@
-use Rattle.std.proofs.Common.{◌≡◌, length, sym, subst, rules}
+use Rattle.std.proofs.Common.{length, sym, subst, rules}
 use Rattle.orders.specs.Rules.{directed}
-use Rattle.orders.specs.Searches.{waits, first_of, IsFirstOf}
+use Rattle.orders.specs.Searches.{waits, IsFirstOf}
 use Rattle.orders.proofs.Cards.{first_of_lem}
 use Rattle.orders.proofs.Rules.{directed_ordered}
 use Rattle.orders.proofs.search.first_waiting.Goals as goal

@@ -1,8 +1,8 @@
-use Rattle.std.proofs.Common.{◌≡◌, ℕ, ◌+◌, ◌<◌, length, get_or, Some, sym, ap, ◌∙◌, add-one, arith, rules}
+use Rattle.std.proofs.Common.{◌≡◌, get_or, ap, ◌∙◌, add-one, arith, rules}
 use Rattle.table.specs.Cards.{blank}
 use Rattle.orders.specs.Rules.{directed}
 use Rattle.orders.specs.Bests.{against}
-use Rattle.orders.specs.Searches.{precedes, first_of}
+use Rattle.orders.specs.Searches.{precedes}
 use Rattle.orders.proofs.search.first_where.Goals as goal
 use Rattle.orders.proofs.search.first_where.Goals.{then-test+in-None, then-test+in-Some+then-comes_before, then-test+in-Some+else-comes_before, else-test}
 

@@ -4,7 +4,7 @@ use Rattle.cubes.specs.Areas.{cubes}
 use Rattle.cubes.specs.Cubes.{Cube}
 use Rattle.cubes.proofs.Areas.{length-cubes}
 use Rattle.moves.specs.Items.{weighed}
-use Rattle.tending.proofs.Lists.{below, left_is, cube-few, sets_is, read_all}
+use Rattle.cubes.proofs.Reading.{below, left_is, cube-few, sets_is, read_all}
 use Rattle.tending.proofs.Starts.{start_more, start-all}
 use Rattle.tending.proofs.start.start_cards.Goals as goal
 
