@@ -1,7 +1,7 @@
 -- One step of a walk over two cubes.
-use Rattle.std.proofs.Common.{◌≡◌, ℕ, ◌+◌, ◌<◌, ◌≤◌, Bool, true, false, ◌&&◌, eqb, List, [], ◌∷◌, map, length, get_or, drop, sym, refl, ap, ◌∙◌, arith}
+use Rattle.std.proofs.Common.{◌≡◌, ℕ, ◌<◌, Bool, true, false, ◌&&◌, eqb, List, [], ◌∷◌, map, length, get_or, sym, refl, ap, ◌∙◌, arith}
 use lib.Bits.{bit_and}
-use Rattle.std.proofs.lemmas.List.{get_or-map, drop_more, length-map, drop_all}
+use Rattle.std.proofs.lemmas.List.{get_or-map}
 use Rattle.std.proofs.lemmas.Bool.{and_right}
 use Rattle.std.specs.List.{list_all, zip}
 use Rattle.parts.specs.Sets.{minus, some}
@@ -10,16 +10,6 @@ use Rattle.cubes.specs.Cubes.{same, covers, meets}
 -- what was read, as a set
 pub read_set : {X : Type 0} (s : X → ℕ) (xs : List X) (i : ℕ) (x : X) → i < length xs → x ≡ get_or xs i x → get_or (map s xs) i 0 ≡ s x
 read_set s xs i x h e = get_or-map s xs i x 0 h ∙ ap s (sym e)
-
--- what is left of a cube, from a part that was read
-pub left-set : {X : Type 0} (s : X → ℕ) (xs : List X) (i : ℕ) (x : X) → i < length xs → x ≡ get_or xs i x → drop i (map s xs) ≡ s x ∷ drop (i + 1) (map s xs)
-left-set s xs i x h e =
-    let l : i < length (map s xs) = rw length-map h in
-    drop_more (map s xs) i 0 l ∙ ap (λ y. y ∷ drop (i + 1) (map s xs)) (read_set s xs i x h e)
-
--- at the end nothing is left
-pub left-none : {X : Type 0} (s : X → ℕ) (xs : List X) (i : ℕ) → length xs ≤ i → drop i (map s xs) ≡ []
-left-none s xs i h = drop_all i (map s xs) (rw length-map h)
 
 -- what `is_empty` said of a set m, which a call made as n
 pub empty_is : (n m : ℕ) (r t : Bool) → n ≡ m → r ≡ eqb n 0 → r ≡ t → eqb m 0 ≡ t

@@ -2,7 +2,7 @@
 use Rattle.std.proofs.Common.{◌≡◌, ℕ, zero, suc, ◌+◌, ◌-◌, ◌/◌, ◌%◌, ◌^◌, ◌<◌, ◌≤◌, min, max, Bool, true, false, not, ◌&&◌, ◌||◌, eqb, ltb, ◌≢◌, refl, sym, ap, ◌∙◌, pow-suc, add-one, arith}
 use Prim.Native.Nat.compare
 use lib.Arith.{bin_ind}
-use lib.Bits.{bit_and, bit_or, and_step, or_step, and_le_l, and_comm}
+use lib.Bits.{bit_and, bit_or, and_step, or_step, and_le_l}
 use lib.Count.{ones, ones_step}
 use Rattle.std.proofs.lemmas.Nat.{pow_pos, mod-pow-add, field_of}
 use Rattle.std.proofs.lemmas.Bool.Decides.{nat_tests}
@@ -112,11 +112,6 @@ has_all (suc k) zero =
 has_all (suc k) (suc v) =
     let e : (2 ^ suc k - 1) / 2 ≡ 2 ^ k - 1 = omega (arith, pow-suc 2 k) in
     rw (e, compare.suc-suc (suc v) k) (has_all k v)
-
--- ---- sets of which neither has a member that the other lacks are equal
-
-pub same-minus : (a b : ℕ) → minus a b ≡ 0 → minus b a ≡ 0 → a ≡ b
-same-minus a b p q = omega (arith, and_le_l a b, and_le_l b a, and_comm a b)
 
 -- ---- how many members
 

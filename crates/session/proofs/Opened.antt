@@ -120,9 +120,6 @@ module _ {X : Type 0} (s : X → ℕ) (t : Filling) (us ts : List X) (rs : List 
   verdict : open_verdict t.p t.rows (on_count t.rows rs) (length (map s us)) (area_length t.p (length (map s ts)) (length rs)) (area_length t.p (length (map s solution)) (length cards)) (area_length t.p (length (map s work)) (length numbers)) ≡ v
   verdict = simp length-map (cc)
 
-  pub leaves_refused : (c : Cause) → v ≡ Err c → leaving (Err (t, by_engine c)) (map s off) (map s solution) cards (map s work) numbers ≡ made
-  leaves_refused c e = rw (verdict ∙ e)
-
   module _ (passed : v ≡ Ok tt) where
     room : (t.p ≤ length us) × (t.rows ≤ a) × (on_count t.rows rs ≤ b) × (1 + (t.p - 1) * t.rows ≤ d)
     room = open_room t.p t.rows (on_count t.rows rs) (length us) a b d (sym found ∙ passed)
