@@ -20,9 +20,11 @@ SLICE = re.compile(r"&(?:mut )?\[")
 
 def functions(text):
     """Each function: name, parameters, body."""
-    for m in FUNCTION.finditer(text):
-        body = re.search(r"^( *)\{\n(.*?)^\1\}", text[m.end():], re.S | re.M)
-        yield m.group(1), m.group(2), body.group(2) if body else ""
+    found = list(FUNCTION.finditer(text))
+    for m, after in zip(found, [*found[1:], None]):
+        part = text[m.end() : after.start() if after else len(text)]
+        body = re.search(r"\{\n(.*)^ *\}", part, re.S | re.M)
+        yield m.group(1), m.group(2), body.group(1) if body else ""
 
 
 def lines(sources, pattern, but=None):

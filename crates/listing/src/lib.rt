@@ -25,7 +25,7 @@ fn value_mark(member: bool) -> u8
     if member { b'1' } else { b'0' }
 }
 
-// The one mark of a part with at most the values 0 and 1.
+// The one mark of a part with at most the values 0 and 1: no `From`, as above.
 fn ternary_mark<P: Part>(part: P) -> u8
     ensures { result ≡ ternary_mark (P.set part) }
 {
@@ -117,7 +117,7 @@ pub fn write_cube<P: Part>(universe: &[P], cube: &[P], line: &mut [u8]) -> usize
     len
 }
 
-// A string of bytes that are text.
+// A string of bytes that are known to be text: what `from_utf8` may refuse can't come.
 fn text_of(heap: Global, bytes: &[u8]) -> Result<String, AllocError>
     requires { IsUtf8 bytes.now }
     ensures { IfOk result (λ s. string_bytes s ≡ bytes.now) }

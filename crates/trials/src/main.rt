@@ -47,7 +47,7 @@ fn digit(byte: u8) -> Option<u32>
     char::from(byte).to_digit(16)
 }
 
-// The byte that two digits stand for.
+// The byte that two of these digits stand for.
 fn byte_of(pair: &[u8]) -> Option<u8> {
     let [high, low] = pair else {
         return None;
@@ -55,7 +55,7 @@ fn byte_of(pair: &[u8]) -> Option<u8> {
     Some((digit(*high)? * 16 + digit(*low)?) as u8)
 }
 
-// The bytes that a text of digits stands for.
+// The bytes that a text of these digits stands for.
 fn bytes_of(heap: Global, digits: &str) -> Result<Option<Vec<u8>>, AllocError> {
     digits.as_bytes().chunks(2).map(byte_of).collect(heap)
 }
