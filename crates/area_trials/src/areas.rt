@@ -1,7 +1,7 @@
 //! The lent areas: their sides, full of something at the start, and how much of each is lent.
 ghost use Rattle.std.specs.Prelude.{◌≤◌, vec_len};
 
-use parts::{Part, word_of};
+use parts::Part;
 use std::alloc::{AllocError, Global};
 use std::fmt;
 use table::card::Card;
@@ -135,6 +135,17 @@ fn junk_card(place: usize) -> Card {
 // A number for a place.
 fn junk_number(place: usize) -> usize {
     place.wrapping_add(30)
+}
+
+// The values of a part, a bit for each. The library's `word_of` asks up to the kind's most; here a value past it would show too.
+fn word_of<P: Part>(part: P) -> u64 {
+    let mut word: u64 = 0;
+    for v in 0..64u32 {
+        if part.contains(v) {
+            word |= 1 << v;
+        }
+    }
+    word
 }
 
 // A card as four numbers: kind, weight, place, and the marks as bits.

@@ -16,7 +16,7 @@ use Rattle.engine.specs.Areas.{areas_verdict, settled, blanked}
 use Rattle.engine.specs.Calls.{Moved, moved_by}
 
 -- an area that is written over as far as it goes
-overlay-all : {X : Type 0} (ys xs : List X) → length ys ≡ length xs → overlay ys xs ≡ ys
+pub overlay-all : {X : Type 0} (ys xs : List X) → length ys ≡ length xs → overlay ys xs ≡ ys
 overlay-all ys xs e = ap (λ l. ys ++ l) (drop_all (length ys) xs (omega arith)) ∙ append-nil ys
 
 -- xs has the solution's cubes before the end of the call, and T what they are then

@@ -39,7 +39,7 @@ fn expand_areas<P: Part, O: Order>(
     ensures apart { IfOk result (λ n. Apart (cubes_in p offs (map P.set off.now)) (cubes_in p (length cards.old) (map P.set cubes.old))) }
     ensures fewer { IfOk result (λ n. n ≤ length cards.old) }
 {
-    let mut solution = Solution::new(p, cubes, cards);
+    let mut solution = Solution::new(p, cards.len(), cubes, cards);
     let off = Cubes::new(off, p, offs);
     check_foreign(&solution.left(), &off)?;
     expand_cubes(order, universe, &off, &mut solution);

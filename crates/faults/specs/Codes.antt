@@ -77,14 +77,14 @@ abbrev pub second_place : Cause → ℕ
 second_place Long = 0
 second_place (Unknown command) = 0
 second_place (Cut command present) = present
-second_place (Misplaced command state) = state_number state
+second_place (Misplaced command state) = state
 second_place (Operand value) = 0
 second_place (Shape first second) = second
 second_place (Limit rounds) = 0
 second_place (Area area needed) = needed
 second_place (Empty part) = 0
 second_place (Outside part value) = value
-second_place (Repeat row kind) = kind_number kind
+second_place (Repeat row kind) = kind
 second_place (Full rows) = 0
 second_place (Off most) = 0
 second_place (Foreign cube off) = off

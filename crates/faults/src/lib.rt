@@ -40,8 +40,9 @@ pub enum Cause {
     Unknown { command: u8 },
     /// The sheet ends within the operands; so many of their bytes are there.
     Cut { command: u8, present: usize },
-    /// The command is not allowed in this state.
-    Misplaced { command: u8, state: State },
+    /// The command is not allowed in this state, which is a number (`State` has those of a sheet).
+    // A number, as an area is: a `State` would ask more of whoever shows a cause.
+    Misplaced { command: u8, state: u8 },
     /// A kind, an order byte or a part number has no meaning.
     Operand { value: u8 },
     /// The number of parts is not 1 to 16 (it, 0), or a size is not 1 to the kind's most (part, size).
@@ -55,8 +56,9 @@ pub enum Cause {
     Empty { part: usize },
     /// A part of a row has a value that the universe lacks.
     Outside { part: usize, value: usize },
-    /// An earlier row of this kind has the same parts.
-    Repeat { row: usize, kind: Kind },
+    /// An earlier row of this kind (0 for ON, 1 for DC) has the same parts.
+    // A number, as a state is.
+    Repeat { row: usize, kind: usize },
     /// There are 512 rows, or the table area is filled.
     Full { rows: usize },
     /// The off list has more cubes than this: 4,096, or its area where that is shorter.
@@ -155,7 +157,7 @@ impl Cause {
             Cause::Area { area, needed } => (area, needed),
             Cause::Empty { part } => (part, 0),
             Cause::Outside { part, value } => (part, value),
-            Cause::Repeat { row, kind } => (row, kind as usize),
+            Cause::Repeat { row, kind } => (row, kind),
             Cause::Full { rows } => (rows, 0),
             Cause::Off { most } => (most, 0),
             Cause::Foreign { cube, off } => (cube, off),

@@ -11,7 +11,7 @@ use crate::weigh::part_weights;
 use crate::widen::widen;
 use cubes::list::Cubes;
 use orders::search::lightest_part;
-use parts::{Part, Word};
+use parts::Part;
 
 /// Grows the cube at place `at` of the solution, which meets no off cube, beside the other cubes.
 pub fn grow<P: Part>(universe: &[P], off: &Cubes<P>, n: usize, at: usize, solution: &mut [P])
@@ -25,18 +25,14 @@ pub fn grow<P: Part>(universe: &[P], off: &Cubes<P>, n: usize, at: usize, soluti
     ensures behind { drop (at * off.now.p + off.now.p) solution.new ≡ drop (at * off.now.p + off.now.p) solution.old }
 {
     let p = off.width();
-    // No heap: room for as many parts as there can be.
-    let mut over = [Word(0); 16];
-    let mut weights = [0; 16];
-    let mut taken = [false; 16];
-    let over = &mut over[..p];
-    let weights = &mut weights[..p];
-    let taken = &mut taken[..p];
     let cubes = Cubes::new(solution, p, n);
-    over_expanded(universe, off, cubes.cube(at), over);
-    part_weights(over, at, &cubes, weights);
+    let over = over_expanded(universe, off, cubes.cube(at));
+    let weights = part_weights(&over[..p], at, &cubes);
+    // No heap: room for as many parts as there can be.
+    let mut taken = [false; 16];
+    let taken = &mut taken[..p];
     let f = &mut solution[at * p..at * p + p];
-    while let Some(k) = lightest_part(weights, taken) {
+    while let Some(k) = lightest_part(&weights[..p], taken) {
         widen(universe, off, k, f);
         taken[k] = true;
     }

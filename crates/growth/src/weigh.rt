@@ -1,5 +1,5 @@
 //! The weight of each part of a cube: how many other cubes that may be covered one day lie within it there already.
-ghost use Rattle.std.specs.Prelude.{◌≡◌, ℕ, ◌+◌, ◌<◌, map, length, if◌then◌else◌, ◌==◌, slice_index};
+ghost use Rattle.std.specs.Prelude.{◌≡◌, ℕ, ◌+◌, ◌<◌, ◌≤◌, map, length, if◌then◌else◌, ◌==◌, slice_index};
 ghost use Rattle.parts.specs.Models.{word_set};
 ghost use Rattle.parts.specs.Sets.{minus};
 ghost use Rattle.cubes.specs.Areas.{cube_at};
@@ -35,8 +35,25 @@ pub(crate) fn within_words<P: Part>(cube: &[P], words: &[Word]) -> bool
         .all(|(x, w)| lies_within(*x, P::make(w.0)))
 }
 
+/// For each part the number of other cubes that `over` covers and whose part lies within that of the cube at place `at`.
+pub fn part_weights<P: Part>(over: &[Word], at: usize, solution: &Cubes<P>) -> [usize; 16]
+    requires few { solution.now.p ≤ 16 }
+    requires place { at < solution.now.n }
+    ensures { (k : ℕ) → k < solution.now.p → slice_index result k ≡ part_weight (map word_set over.now) (cube_at solution.now.p at (map P.set solution.now.parts.now)) (others at (sets_of P.set solution.now)) k }
+{
+    // No heap: room for as many parts as there can be.
+    let mut weights = [0; 16];
+    write_part_weights(over, at, solution, &mut weights[..solution.width()]);
+    weights
+}
+
 /// Makes the weight of each part the number of other cubes that `over` covers and whose part lies within that of the cube at place `at`.
-pub fn part_weights<P: Part>(over: &[Word], at: usize, solution: &Cubes<P>, weights: &mut [usize])
+pub fn write_part_weights<P: Part>(
+    over: &[Word],
+    at: usize,
+    solution: &Cubes<P>,
+    weights: &mut [usize],
+)
     requires place { at < solution.now.n }
     requires size { length weights.old ≡ solution.now.p }
     ensures { (k : ℕ) → k < solution.now.p → slice_index weights.new k ≡ part_weight (map word_set over.now) (cube_at solution.now.p at (map P.set solution.now.parts.now)) (others at (sets_of P.set solution.now)) k }

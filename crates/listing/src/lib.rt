@@ -108,9 +108,10 @@ pub fn write_cube<P: Part>(universe: &[P], cube: &[P], line: &mut [u8]) -> usize
         bytes: line,
         len: 0,
     };
-    for (i, (whole, part)) in universe.iter().zip(cube).enumerate() {
+    // Over one slice, the other by number: over both by `zip` a line of ternary parts takes twice the time.
+    for (i, part) in cube.iter().enumerate() {
         text.gap::<P>(i);
-        text.part(*whole, *part);
+        text.part(universe[i], *part);
     }
     text.push(b'\n');
     let Line { bytes: _, len } = text;

@@ -1,3 +1,3 @@
 pub mod Bits
 pub mod Shown
-mod Words
+pub mod Words

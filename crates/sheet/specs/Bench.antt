@@ -12,6 +12,7 @@ use Rattle.faults.specs.declared.Kind as kinds
 use Rattle.faults.specs.declared.Kind.TheVariants as kind
 use Rattle.faults.specs.declared.State as states
 use Rattle.faults.specs.declared.State.TheVariants as state
+use Rattle.faults.specs.Codes.{state_number}
 use Rattle.parts.specs.Sets.{whole}
 use Rattle.table.specs.Cards.{blank}
 use Rattle.session.specs.Calls.{begun, Begun, added, Added, opening, Opening}
@@ -116,7 +117,7 @@ abbrev pub by_sheet : Cause → Fault
 by_sheet c = record { layer = Sheet; cause = c }
 
 abbrev pub misplaced : Command → states.State → Step
-misplaced c at = Err (by_sheet (Misplaced (letter c) at))
+misplaced c at = Err (by_sheet (Misplaced (letter c) (state_number at)))
 
 -- ---- state 0
 

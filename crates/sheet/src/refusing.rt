@@ -1,5 +1,6 @@
 //! Refusals.
 ghost use Rattle.std.specs.Prelude.{◌≡◌};
+ghost use Rattle.faults.specs.Codes.{state_number};
 ghost use Rattle.commands.specs.Commands.{letter};
 ghost use Rattle.sheet.specs.Bench.{by_sheet};
 
@@ -9,11 +10,11 @@ use session::Table;
 
 /// The refusal of a command in a state where it is not allowed.
 pub(crate) fn misplaced(command: Command, state: State) -> Fault
-    ensures { result ≡ by_sheet (Cause.Misplaced (letter command) state) }
+    ensures { result ≡ by_sheet (Cause.Misplaced (letter command) (state_number state)) }
 {
     Cause::Misplaced {
         command: command.byte(),
-        state,
+        state: state as u8,
     }
     .by(Layer::Sheet)
 }

@@ -1,15 +1,17 @@
 -- One step of each check that goes through a list.
-use Rattle.std.proofs.Common.{◌≡◌, ℕ, zero, suc, ◌+◌, ◌*◌, ◌<◌, ◌≤◌, Bool, true, false, cond, ◌&&◌, ◌||◌, eqb, ltb, leb, ◌⊎◌, List, [], ◌∷◌, ◌++◌, map, length, get_or, take, drop, set, Ok, Err, sym, refl, ap, ◌∙◌, ap₂, inl, inr, add-mul, one-mul, le-div_iff_mul-le, add-one, one-add, arith}
+use Rattle.std.proofs.Common.{◌≡◌, ℕ, zero, suc, ◌+◌, ◌-◌, ◌*◌, ◌/◌, ◌%◌, ◌^◌, ◌<◌, ◌≤◌, Bool, true, false, cond, ◌&&◌, ◌||◌, eqb, ltb, leb, ◌⊎◌, List, [], ◌∷◌, ◌++◌, map, length, get_or, take, drop, set, Ok, Err, sym, refl, ap, ◌∙◌, ap₂, inl, inr, add-mul, one-mul, le-div_iff_mul-le, mod-eq_of_lt, pow_mono, add-one, one-add, arith}
 use mathlib.Core.Bool.{beq}
+use native.Mathlib.Nat.{one-le-pow}
 use lib.Count.{count_trailing_zeros}
 use Rattle.std.specs.List.{list_all, zip}
 use Rattle.parts.specs.Sets.{minus, whole}
+use Rattle.parts.proofs.Words as Words
 use Rattle.cubes.specs.Areas.{cube_at}
 use Rattle.cubes.specs.Cubes.{Cube, same as same_parts}
 use Rattle.cubes.specs.Tables.{Row}
 use Rattle.table.specs.declared.card.Card.{Card}
 use Rattle.faults.specs.declared.Kind.{Kind}
-use Rattle.faults.specs.Codes.{is_on_kind}
+use Rattle.faults.specs.Codes.{kind_number, is_on_kind}
 use Rattle.table.specs.Cards.{area_length, rows_of, is_on, blank}
 use Rattle.std.proofs.lemmas.List.{drop_more, drop_all, get_or-take, length-take, length-map, get_or-map, get_or_default, map_more, set_at, append_assoc, drop-drop, get_or-drop}
 use Rattle.faults.specs.declared.Cause.{Cause}
@@ -28,6 +30,11 @@ pub sizes_step : (most p k : ℕ) (xs : List ℕ) → k < p → p ≤ length xs
     → sizes_verdict most k (drop k (take p xs))
     ≡ cond (ltb (get_or xs k 0) 1 || ltb most (get_or xs k 0)) (Err (Shape k (get_or xs k 0))) (sizes_verdict most (k + 1) (drop (k + 1) (take p xs)))
 sizes_step most p k xs h l = rw (left p k xs h l, add-one)
+
+-- a word of ones, shifted down and cut to the values of a kind
+pub whole_word : (size most : ℕ) → size ≤ most → most ≤ 64 → (2 ^ 64 - 1) / 2 ^ (64 - size) % 2 ^ most ≡ whole size
+whole_word size most h l =
+    ap (λ n. n % 2 ^ most) (Words.whole_word size (omega arith)) ∙ mod-eq_of_lt (omega (arith, pow_mono h, one-le-pow size 2 (omega arith)))
 
 -- a check that passed found nothing
 pub passed : (t : Bool) (c : Cause) (v : Verdict) → cond t (Err c) v ≡ Ok tt → (t ≡ false) × (v ≡ Ok tt)
@@ -137,13 +144,13 @@ rows_left p (suc n) (suc i) ts cs h =
 
 pub repeat_step : (kind : Kind) (A : Cube) (p n i : ℕ) (ts : List ℕ) (cs : List Card) → i < n
     → repeat_verdict kind A i (drop i (rows_of p n ts cs))
-    ≡ cond (beq (is_on (get_or cs i blank)) (is_on_kind kind) && same_parts (cube_at p i ts) A) (Err (Repeat i kind))
+    ≡ cond (beq (is_on (get_or cs i blank)) (is_on_kind kind) && same_parts (cube_at p i ts) A) (Err (Repeat i (kind_number kind)))
     (repeat_verdict kind A (i + 1) (drop (i + 1) (rows_of p n ts cs)))
 repeat_step kind A p n i ts cs h = rw (rows_left p n i ts cs h, add-one)
 
 -- the next row is the first that has the same parts, or it is passed
 pub repeat_found : (kind : Kind) (A : Cube) (i : ℕ) (r : Row) (T : List Row) → beq r.on (is_on_kind kind) ≡ true → same_parts r.cube A ≡ true
-    → repeat_verdict kind A i (r ∷ T) ≡ Err (Repeat i kind)
+    → repeat_verdict kind A i (r ∷ T) ≡ Err (Repeat i (kind_number kind))
 repeat_found kind A i r T k q = rw (k, q)
 
 pub repeat_passed : (kind : Kind) (A : Cube) (i : ℕ) (r : Row) (T : List Row) → (beq r.on (is_on_kind kind) && same_parts r.cube A) ≡ false

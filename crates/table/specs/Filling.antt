@@ -9,7 +9,7 @@ use Rattle.cubes.specs.Cubes.{Cube, same}
 use Rattle.cubes.specs.Tables.{Row}
 use Rattle.table.specs.declared.card.Card.{Card}
 use Rattle.faults.specs.declared.Kind.{Kind}
-use Rattle.faults.specs.Codes.{is_on_kind}
+use Rattle.faults.specs.Codes.{kind_number, is_on_kind}
 use Rattle.table.specs.Cards.{area_length, rows_of}
 
 abbrev pub Verdict : Type 0
@@ -69,7 +69,7 @@ outside_verdict k (a ∷ A) (u ∷ U) =
 abbrev pub repeat_verdict : Kind → Cube → ℕ → List Row → Verdict
 repeat_verdict kind A i [] = Ok tt
 repeat_verdict kind A i (r ∷ T) =
-    cond (beq r.on (is_on_kind kind) && same r.cube A) (Err (Repeat i kind)) (repeat_verdict kind A (suc i) T)
+    cond (beq r.on (is_on_kind kind) && same r.cube A) (Err (Repeat i (kind_number kind))) (repeat_verdict kind A (suc i) T)
 
 -- there are 512 rows, or the table area has no place for one more
 abbrev pub full_verdict : ℕ → ℕ → Verdict

@@ -2,6 +2,7 @@
 ghost use Rattle.std.specs.Prelude.{◌≡◌, ℕ, ◌+◌, ◌*◌, ◌%◌, ◌^◌, ◌<◌, ◌≤◌, ◌==◌, true, map, length, take, drop, set as edited, is_ok, if◌then◌else◌};
 ghost use Rattle.std.specs.Int.Count.{count_trailing_zeros};
 ghost use Rattle.std.proofs.Math.Seq.{paste};
+ghost use Rattle.faults.specs.Codes.{kind_number};
 ghost use Rattle.parts.specs.Sets.{some};
 ghost use Rattle.cubes.specs.Areas.{put_at};
 ghost use Rattle.cubes.specs.Cubes.{same};
@@ -79,12 +80,20 @@ fn same_as_row<P: Part>(cube: &[P], words: &[u64]) -> bool
             .all(|(part, word)| is_made(*part, *word))
 }
 
+// The number that a refusal has for a kind.
+fn number_of(kind: Kind) -> usize
+    ensures { result ≡ kind_number kind }
+{
+    kind as usize
+}
+
 // Whether no earlier row of this kind has the same parts.
 fn check_repeat<P: Part>(kind: Kind, words: &[u64], rows: &Rows<P>) -> Result<(), Cause>
     ensures { result ≡ repeat_verdict kind (made_row P.MOST words.now) 0 (rows_in P.set rows.now) }
 {
     for (row, (cube, card)) in rows.cubes.iter().zip(rows.cards).enumerate() {
         if card.is_on() == kind.is_on() && same_as_row(cube, words) {
+            let kind = number_of(kind);
             return Err(Cause::Repeat { row, kind });
         }
     }

@@ -8,11 +8,19 @@ use Rattle.tending.specs.Solutions.{SameAreas, BehindStays}
 use Rattle.tending.proofs.Places.{places_within}
 
 pub no_step : {X : Type 0} (S : Solution X) → SameAreas S S
-no_step S = record { cubes = refl; cards = refl; length = refl; p = refl; fewer = omega arith }
+no_step S = record { cubes = refl; cards = refl; parts = refl; length = refl; p = refl; count = refl; fewer = omega arith }
 
 pub both_steps : {X : Type 0} (S T U : Solution X) → SameAreas S T → SameAreas T U → SameAreas S U
 both_steps S T U a b =
-    record { cubes = b.cubes ∙ a.cubes; cards = b.cards ∙ a.cards; length = b.length ∙ a.length; p = b.p ∙ a.p; fewer = omega (arith, a.fewer, b.fewer) }
+    record {
+      cubes = b.cubes ∙ a.cubes;
+      cards = b.cards ∙ a.cards;
+      parts = b.parts ∙ a.parts;
+      length = b.length ∙ a.length;
+      p = b.p ∙ a.p;
+      count = b.count ∙ a.count;
+      fewer = omega (arith, a.fewer, b.fewer);
+    }
 
 -- what is the same from a place on is the same from each later one on
 pub stays_behind : {X : Type 0} (m n : ℕ) (xs ys : List X) → m ≤ n → drop m xs ≡ drop m ys → drop n xs ≡ drop n ys

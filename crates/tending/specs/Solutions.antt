@@ -18,12 +18,14 @@ cube_left s i S = cube_at S.p i (map s S.cubes.now)
 abbrev pub items : {X : Type 0} → (X → ℕ) → Solution X → List Item
 items s S = items_of S.p S.n (map s S.cubes.now) S.cards.now
 
--- what every step keeps: the areas with their lengths, and how many parts a cube has; and no cube more is left
+-- what every step keeps: the areas with their lengths, how many parts a cube has, and with how many cubes the call began; and no cube more is left
 pub record SameAreas {X : Type 0} (S T : Solution X) : Type 0 where
   pub cubes : T.cubes.ghost_name ≡ S.cubes.ghost_name
   pub cards : T.cards.ghost_name ≡ S.cards.ghost_name
+  pub parts : length T.cubes.now ≡ length S.cubes.now
   pub length : length T.cards.now ≡ length S.cards.now
   pub p : T.p ≡ S.p
+  pub count : T.count ≡ S.count
   pub fewer : T.n ≤ S.n
 
 -- what a step leaves alone: the parts behind the cubes that were left, and the cards behind theirs

@@ -2,7 +2,7 @@
 ghost use Rattle.std.specs.Prelude.{◌≡◌, ◌*◌, ◌≤◌, map, length};
 ghost use Rattle.cubes.specs.Areas.{cubes as cubes_in, overlay};
 ghost use Rattle.moves.specs.Items.{started};
-ghost use Rattle.tending.specs.Items.{cards_of};
+ghost use Rattle.tending.specs.Items.{items_of, cards_of};
 ghost use Rattle.tending.specs.Solutions.{SameAreas, items, left};
 
 use crate::solution::Solution;
@@ -11,16 +11,17 @@ use cubes::list::Cubes;
 use parts::Part;
 use table::card::Card;
 
-// Writes the cards of the first `n` cubes of an area: weights and starting places, and no marks.
+/// Writes the cards of the first `n` cubes: weights and starting places, and no marks.
 // The list is made in here: of a `&mut` field that a list was made of, a proof knows nothing afterwards.
-fn start_cards<P: Part>(p: usize, n: usize, area: &[P], cards: &mut [Card])
+pub fn start_cards<P: Part>(p: usize, n: usize, solution: &[P], cards: &mut [Card])
     requires few { p ≤ 16 }
     requires most { n ≤ 512 }
-    requires fits { n * p ≤ length area.now }
+    requires fits { n * p ≤ length solution.now }
     requires beside { n ≤ length cards.old }
-    ensures { cards.new ≡ overlay (cards_of (started (cubes_in p n (map P.set area.now)))) cards.old }
+    ensures items { items_of p n (map P.set solution.now) cards.new ≡ started (cubes_in p n (map P.set solution.now)) }
+    ensures cards { cards.new ≡ overlay (cards_of (started (cubes_in p n (map P.set solution.now)))) cards.old }
 {
-    let cubes = Cubes::new(area, p, n);
+    let cubes = Cubes::new(solution, p, n);
     for (i, cube) in cubes.iter().enumerate() {
         cards[i] = Card {
             weight: weigh(cube, &cubes),

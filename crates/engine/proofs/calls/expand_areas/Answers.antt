@@ -1,11 +1,12 @@
 use Rattle.std.proofs.Common.{rules, ◌≡◌, ℕ, ◌-◌, ◌*◌, ◌≤◌, ◌++◌, map, length, take, replicate, Ok, sym, refl, ap, ◌∙◌, arith}
-use Rattle.std.proofs.lemmas.List.{length-map}
+use Rattle.std.proofs.lemmas.List.{length-map, length-replicate}
 use Rattle.cubes.specs.Areas.{cubes, flat}
 use Rattle.moves.specs.Calls.{expand}
 use Rattle.table.specs.Cards.{blank}
 use Rattle.engine.specs.Foreign.{foreign_verdict}
 use Rattle.engine.proofs.Meetings.{none_foreign}
-use Rattle.engine.proofs.Settling.{settled_list, moved_settled}
+use Rattle.tending.proofs.Settled.{settled_whole}
+use Rattle.engine.proofs.Settling.{overlay-all, settled_list, moved_settled}
 use Rattle.engine.proofs.calls.expand_areas.Goals as goal
 
 pub returns : goal.returns
@@ -24,12 +25,13 @@ returns g c =
     let a = c.expand_cubes.ensures.areas in
     let q : V.p ≡ p = a.p ∙ made.p in
     let m : length V.cards.now ≡ length K = a.length ∙ ap length made.cards in
-    let few : V.n ≤ length K = omega (arith, V.within, m) in
-    let exact : length V.cubes.now ≡ length K * p = V.exact ∙ rw (q, m) in
+    let all : V.count ≡ length K = a.count ∙ made.count in
+    let few : V.n ≤ length K = omega (arith, V.within, all) in
+    let exact : length V.cubes.now ≡ length K * p = a.parts ∙ ap length made.cubes ∙ c.requires.exact in
     let list : cubes p V.n (map s V.cubes.now) ≡ E =
     ap (λ r. cubes r V.n (map s V.cubes.now)) (sym q) ∙ c.expand_cubes.ensures.list ∙ rw (o.p, o.n, o.parts, made.p, made.n, made.cubes) in
-    let settling : map s W.cubes.now ≡ flat (cubes p V.n (map s V.cubes.now)) ++ replicate ((length K - V.n) * p) 0 = c.settle.ensures.cubes ∙ rw (q, m) in
-    let none : W.cards.now ≡ replicate (length K) blank = c.settle.ensures.cards ∙ ap (λ n. replicate n blank) m in
+    let settling : map s W.cubes.now ≡ flat (cubes p V.n (map s V.cubes.now)) ++ replicate ((length K - V.n) * p) 0 = c.settle.ensures.cubes ∙ rw (q, all) (settled_whole s p V.n (length K) V.cubes.now few (omega (arith, exact)) exact) in
+    let none : W.cards.now ≡ replicate (length K) blank = c.settle.ensures.cards ∙ rw all (overlay-all (replicate (length K) blank) V.cards.now (length-replicate (length K) blank ∙ sym m)) in
     let l = c.left.ensures in
     let passed : Ok tt ≡ foreign_verdict 0 R C = c.in_ok-check_foreign.ensures.value ∙ rw (o.parts, o.p, o.n, l.parts, l.p, l.n, made.cubes, made.p, made.n) in
     let long : length (map s A) ≡ length K * p = omega (arith, length-map A s, c.requires.exact) in

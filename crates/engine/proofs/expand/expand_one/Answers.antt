@@ -38,7 +38,8 @@ returns g c =
     let R = sets_of s l in
     let C = left s V in
     let L = items s V in
-    let fits : n * p ≤ length S = omega (arith, length-map V.cubes.now s, places_within p n (length K) V.within, V.exact) in
+    let fits : n * p ≤ length S = omega (arith, length-map V.cubes.now s, places_within p n V.count V.within, V.fits) in
+    let beside : n ≤ length K = omega (arith, V.within, V.beside) in
     let listed : l.n * l.p ≤ length (map s l.parts.now) = rw length-map l.fits in
     let wR : Wide p R = subst (λ m. Wide m R) c.requires.wide (wide_cubes l.p l.n (map s l.parts.now) listed) in
     let set = c.grow.ensures.sets ∙ ap (λ m. put_at m at (grown (take m (map s c.args.universe.now)) R (cube_at m at S) (others at (cubes m n S))) S) c.requires.wide in
@@ -48,13 +49,13 @@ returns g c =
     let size : length (cube_at p at S) ≡ p = length-cube_at p at S (omega arith) in
     let W = c.remove_covered.new.self in
     let all : items s W ≡ expanding U R (take at L) (get_or L at no_item) (drop (suc at) L) =
-    c.remove_covered.ensures.items ∙ ap (λ Y. only_at at (items_of p n Y K)) set ∙ grown_items p n S K fits V.within U R at c.requires.place wR t size in
+    c.remove_covered.ensures.items ∙ ap (λ Y. only_at at (items_of p n Y K)) set ∙ grown_items p n S K fits beside U R at c.requires.place wR t size in
     let a = c.remove_covered.ensures.areas in
     let b = c.remove_covered.ensures.behind in
     let grown_stays : drop (at * p + p) c.grow.new.solution ≡ drop (at * p + p) V.cubes.now = subst (λ m. drop (at * m + m) c.grow.new.solution ≡ drop (at * m + m) V.cubes.now) c.requires.wide c.grow.ensures.behind in
     record {
       items = all;
-      apart = subst (Apart R) (sym (sym (cubes_items W.p W.n (map s W.cubes.now) W.cards.now) ∙ ap cubes_of all)) (grown-apart p n S K fits V.within U R at c.requires.place wR c.requires.apart);
-      areas = record { cubes = a.cubes; cards = a.cards; length = a.length; p = a.p; fewer = a.fewer };
+      apart = subst (Apart R) (sym (sym (cubes_items W.p W.n (map s W.cubes.now) W.cards.now) ∙ ap cubes_of all)) (grown-apart p n S K fits beside U R at c.requires.place wR c.requires.apart);
+      areas = record { cubes = a.cubes; cards = a.cards; parts = omega (arith, a.parts, c.grow.auto.solution); length = a.length; p = a.p; count = a.count; fewer = a.fewer };
       behind = record { cubes = b.cubes ∙ stays_behind (at * p + p) (n * p) c.grow.new.solution V.cubes.now below grown_stays; cards = b.cards };
     }

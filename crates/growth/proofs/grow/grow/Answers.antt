@@ -1,6 +1,6 @@
 use Rattle.std.proofs.Common.{◌≡◌, ℕ, ◌+◌, ◌-◌, ◌*◌, ◌<◌, ◌≤◌, false, true, not, map, length, get_or, take, drop, set, replicate, Some, None, sym, refl, ap, ap₂, ◌∙◌, subst, arith}
 use borrow.Rule.Slice.PartMut.{put_mid}
-use Rattle.std.proofs.lemmas.List.{length-map, length-take, length-drop, get_or-take, take-replicate}
+use Rattle.std.proofs.lemmas.List.{length-map, length-take, length-drop, get_or-take, take-map, take-replicate}
 use Rattle.std.proofs.lemmas.Slice.{take-put_mid_below, drop-put_mid}
 use Rattle.parts.specs.Models.{word_set}
 use Rattle.cubes.specs.Areas.{cube_at, cubes}
@@ -15,8 +15,8 @@ use Rattle.growth.specs.Others.{others}
 use Rattle.growth.proofs.Grown.{count-set, growing_on, grows-start, grows-one, grows-end, grown-all}
 use Rattle.growth.proofs.grow.grow.Goals as goal
 
-pub over_expanded-requires-clause-apart : goal.over_expanded-requires-clause-apart
-over_expanded-requires-clause-apart g c =
+pub over_expanded-over-requires-clause-apart : goal.over_expanded-over-requires-clause-apart
+over_expanded-over-requires-clause-apart g c =
     let s = g.P.Part.set in
     let cu = c.new-cubes.result in
     let f : map s c.cube.result.now ≡ cube_at c.args.off.now.p c.args.at (map s c.args.solution.now) =
@@ -58,15 +58,18 @@ loop-k-preserved g c =
     let k = c.in-Some.k in
     let cu = c.new-cubes.result in
     let t = c.loop-k.taken in
-    let ws = c.part_weights.new.weights in
+    let n = c.width-p.result in
+    let ws = take n c.part_weights-weights.result in
     let pe : cu.p ≡ p = cc in
     let fe : cube_at cu.p at (map s cu.parts.now) ≡ F = cc in
     let ce : others at (sets_of s cu) ≡ C = cc in
-    let ov : map word_set c.over_expanded.new.over ≡ over U F R =
-    c.over_expanded.ensures ∙ ap (λ A. over U A R) (ap (map s) c.cube.ensures ∙ map-cube_at s cu.p at cu.parts.now ∙ fe) in
+    let ov : map word_set (take n c.over_expanded-over.result) ≡ over U F R =
+    ap (λ i. map word_set (take i c.over_expanded-over.result)) c.width-p.ensures ∙ sym (take-map word_set p c.over_expanded-over.result)
+    ∙ c.over_expanded-over.ensures ∙ ap (λ A. over U A R) (ap (map s) c.cube.ensures ∙ map-cube_at s cu.p at cu.parts.now ∙ fe) in
     let agree : (i : ℕ) → i < p → get_or ws i 0 ≡ w i = λ i h.
     let l : i < cu.p = omega (arith, pe) in
-    c.part_weights.ensures i l ∙ ap (λ o. part_weight o (cube_at cu.p at (map s cu.parts.now)) (others at (sets_of s cu)) i) ov
+    get_or-take n c.part_weights-weights.result i 0 (omega (arith, c.width-p.ensures)) ∙ c.part_weights-weights.ensures i l
+    ∙ ap (λ o. part_weight o (cube_at cu.p at (map s cu.parts.now)) (others at (sets_of s cu)) i) ov
     ∙ ap₂ (λ A D. part_weight (over U F R) A D i) fe ce in
     let size : length t ≡ p = c.loop-k.auto.taken ∙ simp length-take (omega (arith, c.width-p.ensures, c.requires.few)) in
     let marked = subst (Found (λ i. not (get_or c.loop-k.taken i false)) (length c.loop-k.taken)) c.in-Some.is c.lightest_part.ensures.first.found in

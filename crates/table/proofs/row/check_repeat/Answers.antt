@@ -3,7 +3,7 @@ use Rattle.std.specs.Bool.{beq}
 use Rattle.std.proofs.lemmas.Bool.{and_left, and_right}
 use Rattle.std.proofs.lemmas.List.{length-append}
 use Rattle.faults.specs.declared.Cause.TheVariants.{Repeat}
-use Rattle.faults.specs.Codes.{is_on_kind}
+use Rattle.faults.specs.Codes.{kind_number, is_on_kind}
 use Rattle.cubes.specs.Areas.{cubes}
 use Rattle.cubes.specs.Cubes.{same}
 use Rattle.cubes.specs.Lists.{left}
@@ -38,7 +38,7 @@ returns-then-same_as_row g c =
     let R = rows_beside s (left next.a) next.b.rest.now in
     let k : beq (is_on c.in-Some.card.now) (is_on_kind kind) ≡ true = ap₂ beq (sym c.is_on.ensures) (sym c.is_on-in-loop-row.ensures) ∙ c.if-is_on.true in
     let q : same (map s c.in-Some.cube.now) A ≡ true = sym c.same_as_row.ensures ∙ c.if-same_as_row.true in
-    ap (λ j. Err (Repeat j kind)) (steps.1 ∙ c.loop-row.invariant.1)
+    ap₂ (λ j n. Err (Repeat j n)) (steps.1 ∙ c.loop-row.invariant.1) c.number_of-kind.ensures
     ∙ sym (ap₂ (λ C cs. repeat_verdict kind A i (rows_beside s C cs)) steps.0.0 steps.0.1 ∙ repeat_found kind A i _ R k q) ∙ c.loop-row.invariant.0
 
 pub loop-row-preserved : goal.loop-row-preserved

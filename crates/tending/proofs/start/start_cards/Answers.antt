@@ -5,22 +5,23 @@ use Rattle.cubes.specs.Cubes.{Cube}
 use Rattle.cubes.proofs.Areas.{length-cubes}
 use Rattle.moves.specs.Items.{weighed}
 use Rattle.cubes.proofs.Reading.{below, left_is, cube-few, sets_is, read_all}
-use Rattle.tending.proofs.Starts.{start_more, start-all}
+use Rattle.tending.specs.Items.{items_of}
+use Rattle.tending.proofs.Starts.{start_more, start-all, start_items}
 use Rattle.tending.proofs.start.start_cards.Goals as goal
 
 pub weigh-requires-clause-few : goal.weigh-requires-clause-few
 weigh-requires-clause-few g c =
-    omega (arith, c.requires.few, cube-few c.args.p c.args.n c.args.area.now c.loop-i.i c.in-Some.cube.now _ (sym c.loop-i.invariant.left ∙ c.in-Some.ensures.steps))
+    omega (arith, c.requires.few, cube-few c.args.p c.args.n c.args.solution.now c.loop-i.i c.in-Some.cube.now _ (sym c.loop-i.invariant.left ∙ c.in-Some.ensures.steps))
 
 pub bounds-cards-i : goal.bounds-cards-i
 bounds-cards-i g c =
-    omega (arith, c.requires.beside, below c.args.p c.args.n c.args.area.now c.loop-i.i c.in-Some.cube.now _ (sym c.loop-i.invariant.left ∙ c.in-Some.ensures.steps))
+    omega (arith, c.requires.beside, below c.args.p c.args.n c.args.solution.now c.loop-i.i c.in-Some.cube.now _ (sym c.loop-i.invariant.left ∙ c.in-Some.ensures.steps))
 
 pub loop-i-preserved : goal.loop-i-preserved
 loop-i-preserved g c =
     let p = c.args.p in
     let n = c.args.n in
-    let xs = c.args.area.now in
+    let xs = c.args.solution.now in
     let s = g.P.Part.set in
     let i = c.loop-i.i in
     let N = c.loop-i.cards in
@@ -44,8 +45,10 @@ pub returns : goal.returns
 returns g c =
     let p = c.args.p in
     let n = c.args.n in
-    let C = cubes p n (map g.P.Part.set c.args.area.now) in
-    let end = read_all p n c.args.area.now c.loop-i.i (sym c.loop-i.invariant.left ∙ c.in-None.ensures.steps.0) in
-    let e : c.loop-i.i ≡ length C = omega (arith, end, c.loop-i.invariant.few, length-cubes p n (map g.P.Part.set c.args.area.now)) in
+    let S = map g.P.Part.set c.args.solution.now in
+    let C = cubes p n S in
+    let end = read_all p n c.args.solution.now c.loop-i.i (sym c.loop-i.invariant.left ∙ c.in-None.ensures.steps.0) in
+    let e : c.loop-i.i ≡ length C = omega (arith, end, c.loop-i.invariant.few, length-cubes p n S) in
     let inv = rw e at c.loop-i.invariant in
-    start-all C c.loop-i.cards c.args.cards.now inv.written inv.behind
+    let cards = start-all C c.loop-i.cards c.args.cards.now inv.written inv.behind in
+    record { items = ap (items_of p n S) cards ∙ start_items p n S c.args.cards.now; cards = cards }

@@ -16,8 +16,9 @@ returns-clause-items g c =
     let to = c.args.to in
     let e : from * S.p + S.p - from * S.p ≡ S.p = omega arith in
     let parts : c.copy_within.new.self ≡ paste xs (to * S.p) (drop (from * S.p) xs) S.p = c.copy_within.ensures.after ∙ ap (paste xs (to * S.p) (drop (from * S.p) xs)) e in
-    let fits : S.n * S.p ≤ length xs = omega (arith, places_within S.p S.n (length S.cards.now) S.within, S.exact) in
-    rw parts (moved_items g.P.Part.set S.p S.n xs S.cards.now fits S.within from to c.requires.source c.requires.place)
+    let fits : S.n * S.p ≤ length xs = omega (arith, places_within S.p S.n S.count S.within, S.fits) in
+    let beside : S.n ≤ length S.cards.now = omega (arith, S.within, S.beside) in
+    rw parts (moved_items g.P.Part.set S.p S.n xs S.cards.now fits beside from to c.requires.source c.requires.place)
 
 pub returns-clause-behind : goal.returns-clause-behind
 returns-clause-behind g c =
@@ -27,7 +28,7 @@ returns-clause-behind g c =
     let C = S.cards.now in
     let from = c.args.from in
     let to = c.args.to in
-    let fits : S.n * p ≤ length xs = omega (arith, places_within p S.n (length C) S.within, S.exact) in
+    let fits : S.n * p ≤ length xs = omega (arith, places_within p S.n S.count S.within, S.fits) in
     let source = place_below from S.n p c.requires.source in
     let place = place_below to S.n p c.requires.place in
     let k : ℕ = from * p + p - from * p in

@@ -20,16 +20,17 @@ returns g c =
     let L = items_of p n S C in
     let k = as_taken (get_or C at blank) in
     let f = get_or L at no_item in
-    let fits : n * p ≤ length S = omega (arith, length-map V.cubes.now g.P.Part.set, places_within p n (length C) V.within, V.exact) in
+    let fits : n * p ≤ length S = omega (arith, length-map V.cubes.now g.P.Part.set, places_within p n V.count V.within, V.fits) in
+    let beside : n ≤ length C = omega (arith, V.within, V.beside) in
     let in_L : at < length L = omega (arith, length_items p n S C) in
     let is : f ≡ item_of (cube_at p at S) (get_or C at blank) = get_or-items p n at S C c.requires in
     let cube : cube_at p at S ≡ f.cube = ap (λ (x : Item). x.cube) (sym is) in
     let card : item_of (cube_at p at S) k ≡ placed f f.cube = ap (λ (x : Item). placed x x.cube) (sym is) in
-    let marked : items_of p n S (set C at k) ≡ set L at (placed f f.cube) = items_card p n S C fits V.within at c.requires k ∙ ap (set L at) card in
+    let marked : items_of p n S (set C at k) ≡ set L at (placed f f.cube) = items_card p n S C fits beside at c.requires k ∙ ap (set L at) card in
     let a = c.close_up.ensures.areas in
     let b = c.close_up.ensures.behind in
     record {
       items = c.close_up.ensures.items ∙ ap₂ (λ (G : Cube) (M : _). spared_but G at M) cube marked ∙ marked_only at L in_L;
-      areas = record { cubes = a.cubes; cards = a.cards; length = a.length ∙ length-set C at k; p = a.p; fewer = a.fewer };
+      areas = record { cubes = a.cubes; cards = a.cards; parts = a.parts; length = a.length ∙ length-set C at k; p = a.p; count = a.count; fewer = a.fewer };
       behind = record { cubes = b.cubes; cards = b.cards ∙ drop-set-lt n C at k c.requires };
     }

@@ -9,8 +9,9 @@ use Rattle.tending.proofs.solution.Solution.take_out.Goals as goal
 pub returns-clause-items : goal.returns-clause-items
 returns-clause-items g c =
     let S = c.args.self.now in
-    let fits : S.n * S.p ≤ length S.cubes.now = omega (arith, places_within S.p S.n (length S.cards.now) S.within, S.exact) in
-    rw (c.copy_within.ensures.after, c.copy_within-2.ensures.after) (taken_out g.P.Part.set S.p S.n c.args.i S.cubes.now S.cards.now fits S.within c.requires)
+    let fits : S.n * S.p ≤ length S.cubes.now = omega (arith, places_within S.p S.n S.count S.within, S.fits) in
+    let beside : S.n ≤ length S.cards.now = omega (arith, S.within, S.beside) in
+    rw (c.copy_within.ensures.after, c.copy_within-2.ensures.after) (taken_out g.P.Part.set S.p S.n c.args.i S.cubes.now S.cards.now fits beside c.requires)
 
 pub returns-clause-behind : goal.returns-clause-behind
 returns-clause-behind g c =
@@ -22,10 +23,10 @@ returns-clause-behind g c =
     let C = drop (i + 1) S.cards.now in
     let k : ℕ = n * p - (i + 1) * p in
     let l : ℕ = n - (i + 1) in
-    let fits : n * p ≤ length S.cubes.now = omega (arith, places_within p n (length S.cards.now) S.within, S.exact) in
+    let fits : n * p ≤ length S.cubes.now = omega (arith, places_within p n S.count S.within, S.fits) in
     let next = next_place i p in
     let below = place_below i n p c.requires in
-    let within = S.within in
+    let beside : n ≤ length S.cards.now = omega (arith, S.within, S.beside) in
     let parts : k ≤ length xs = simp length-drop (omega arith) in
     let cards : l ≤ length C = simp length-drop (omega arith) in
     record {

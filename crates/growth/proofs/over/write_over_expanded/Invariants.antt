@@ -2,7 +2,7 @@ use Rattle.std.proofs.Common.{◌≡◌, map, take}
 use Rattle.parts.specs.Models.{word_set}
 use Rattle.moves.specs.Expand.{over}
 use Rattle.growth.proofs.Lists.{sets_read}
-use Rattle.growth.proofs.over.over_expanded.Given as goal
+use Rattle.growth.proofs.over.write_over_expanded.Given as goal
 
 abbrev pub invariant-loop-k : goal.invariant-loop-k
 invariant-loop-k g l = take l.k (map word_set l.over) ≡ take l.k (map g.P.Part.set l.universe)

@@ -9,8 +9,8 @@ use Rattle.moves.specs.Expand.{part_weight}
 use Rattle.growth.specs.Others.{others}
 use Rattle.growth.proofs.Lists.{width_is, sets_at}
 use Rattle.growth.proofs.Weighed.{adds, around_le, around-itself, around_more}
-use Rattle.growth.proofs.weigh.part_weights.Goals as goal
-use Rattle.growth.proofs.weigh.part_weights.Goals.{then-i-at+then-within_words, else-i-at, else-i-at-via-then-i-at+else-within_words, else-i-at-via-else-i-at}
+use Rattle.growth.proofs.weigh.write_part_weights.Goals as goal
+use Rattle.growth.proofs.weigh.write_part_weights.Goals.{then-i-at+then-within_words, else-i-at, else-i-at-via-then-i-at+else-within_words, else-i-at-via-else-i-at}
 
 pub add_weights-requires-clause-cube : goal.add_weights-requires-clause-cube
 add_weights-requires-clause-cube g c =

@@ -9,7 +9,7 @@ use Rattle.moves.specs.Expand.{over}
 use Rattle.growth.specs.Missed.{only_missed}
 use Rattle.growth.proofs.Blocked.{touches_cube, start_more, over_start, over-passed, over_step}
 use Rattle.growth.proofs.Lists.{next_read, width_read, all_read, sets_read, sets_read-push}
-use Rattle.growth.proofs.over.over_expanded.Goals as goal
+use Rattle.growth.proofs.over.write_over_expanded.Goals as goal
 
 pub loop-k-preserved : goal.loop-k-preserved
 loop-k-preserved g c =

@@ -3,7 +3,7 @@ use Rattle.parts.specs.Models.{word_set}
 use Rattle.cubes.specs.Areas.{cubes, cube_at}
 use Rattle.moves.specs.Expand.{part_weight}
 use Rattle.growth.specs.Others.{others}
-use Rattle.growth.proofs.weigh.part_weights.Given as goal
+use Rattle.growth.proofs.weigh.write_part_weights.Given as goal
 
 abbrev pub invariant-loop-i : goal.invariant-loop-i
 invariant-loop-i g l =
