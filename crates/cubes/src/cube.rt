@@ -1,5 +1,5 @@
 //! Tests on two cubes, part by part. Each goes over the parts of one, as far as both have any, and takes the other's by number: over both by
-//! `zip` each turn has two end tests, and Open takes a quarter more instructions.
+//! `zip` each turn has two end tests, and Open takes a tenth to two thirds more instructions.
 ghost use Rattle.std.specs.Prelude.{◌≡◌, map};
 ghost use Rattle.cubes.specs.Cubes.{covers as covers_all, meets as meets_all};
 
