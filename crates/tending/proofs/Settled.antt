@@ -42,8 +42,8 @@ module _ {X : Type 0} (s : X → ℕ) (p n count : ℕ) (xs : List X) (h : n ≤
     empty : map s ys ≡ replicate k 0
     empty = let l : length (take k (drop (n * p) xs)) ≡ k = simp (length-take, length-drop) (omega (arith, within, fits)) in e ∙ ap (λ m. replicate m 0) l
 
-    pub settled_parts : map s (put_mid (n * p) k xs ys) ≡ overlay all (map s xs)
-    settled_parts =
+    pub settled_overlay : map s (put_mid (n * p) k xs ys) ≡ overlay all (map s xs)
+    settled_overlay =
         let S = map s xs in
         let rest : map s (drop k (drop (n * p) xs)) ≡ drop (length all) S = ap (map s) (drop-drop k (n * p) xs) ∙ sym (drop-map s (n * p + k) xs) ∙ ap (λ m. drop m S) (sym size) in
         map-append s (take (n * p) xs) (ys ++ drop k (drop (n * p) xs))
@@ -56,3 +56,13 @@ module _ {X : Type 0} (s : X → ℕ) (p n count : ℕ) (xs : List X) (h : n ≤
     settled_behind =
         let l : length ys ≡ k = sym (length-map ys s) ∙ ap length empty ∙ length-replicate k 0 in
         drop-put_mid (n * p) k xs ys (count * p) (omega (arith, within, fits)) (omega (arith, within)) l
+
+-- an area that ends where the cubes did with which the call began
+module _ {X : Type 0} (s : X → ℕ) (p n count : ℕ) (xs ys : List X) (h : n ≤ count) (exact : length xs ≡ count * p) where
+  pub settled_parts : map s ys ≡ replicate (length (take (length xs - n * p) (drop (n * p) xs))) 0 → map s (put_mid (n * p) (length xs - n * p) xs ys) ≡ flat (cubes p n (map s xs)) ++ replicate ((count - n) * p) 0
+  settled_parts e =
+      let fits : count * p ≤ length xs = omega (arith, exact) in
+      let behind : length xs - n * p ≡ count * p - n * p = ap (λ m. m - n * p) exact in
+      ap (λ m. map s (put_mid (n * p) m xs ys)) behind
+      ∙ settled_overlay s p n count xs h fits ys (e ∙ ap (λ m. replicate (length (take m (drop (n * p) xs))) 0) behind)
+      ∙ settled_whole s p n count xs h fits exact
